@@ -1,0 +1,66 @@
+-- Cell words (document 01, "The page and the state"): a cell is a code, a set and five flags, packed into 16 bits.
+-- Bits 0 to 6 are the code, 7 and 8 the set, 9 to 13 bold, underline, blink, reverse and protected. Bits 14 and 15 are unused.
+use mathlib.Core.Bool.{Bool, true, false, cond}
+use Prim.Native.Nat.{ℕ, _+_, _*_, _/_, _%_}
+use lib.Dec.{eqb}
+use Rattle.cells.specs.declared.CharSet.{CharSet}
+use Rattle.cells.specs.declared.CharSet.the-variants.{Ascii, SpecialGraphics, Supplemental, Latin1}
+use Rattle.cells.specs.declared.Rendition.{Rendition}
+use Rattle.cells.specs.declared.Cell.{Cell}
+
+-- ---- the fields
+
+abbrev pub setNumber : CharSet → ℕ
+setNumber Ascii = 0
+setNumber SpecialGraphics = 1
+setNumber Supplemental = 2
+setNumber Latin1 = 3
+
+abbrev pub setOf : ℕ → CharSet
+setOf n = cond (eqb n 0) Ascii (cond (eqb n 1) SpecialGraphics (cond (eqb n 2) Supplemental Latin1))
+
+-- a flag as a bit, and back
+abbrev pub bit : Bool → ℕ
+bit true = 1
+bit false = 0
+
+abbrev pub flag : ℕ → Bool
+flag n = eqb (n % 2) 1
+
+abbrev pub renditionBits : Rendition → ℕ
+renditionBits r = bit (r .bold) + 2 * bit (r .underline) + 4 * bit (r .blink) + 8 * bit (r .reverse)
+
+-- ---- packing: unused bits are written zero
+
+unfoldable pub packed : Cell → ℕ
+packed c = c .code % 128 + 128 * setNumber (c .set) + 512 * renditionBits (c .rendition) + 8192 * bit (c .protected)
+
+-- any word is accepted, whatever its unused bits
+unfoldable pub unpacked : ℕ → Cell
+unpacked w = record {
+  code = w % 128;
+  set = setOf (w / 128 % 4);
+  rendition = record { bold = flag (w / 512); underline = flag (w / 1024); blink = flag (w / 2048); reverse = flag (w / 4096) };
+  protected = flag (w / 8192);
+}
+
+-- ---- plain cells, blank ones, and what selective erase leaves
+
+abbrev pub plain : Rendition
+plain = record { bold = false; underline = false; blink = false; reverse = false }
+
+-- a code of ASCII with no flag
+abbrev pub plainCell : ℕ → Cell
+plainCell code = record { code = code; set = Ascii; rendition = plain; protected = false }
+
+-- code 20, ASCII, no flag: the word of `plainCell 0x20`
+abbrev pub blank : ℕ
+blank = 0x20
+
+-- the code becomes 20 of ASCII, the flags stay, the unused bits are written zero
+unfoldable pub spaced : ℕ → ℕ
+spaced w = packed (record { code = 0x20; set = Ascii; rendition = unpacked w .rendition; protected = unpacked w .protected })
+
+-- selective erase skips a protected cell
+unfoldable pub selectivelyErased : ℕ → ℕ
+selectivelyErased w = cond (unpacked w .protected) w (spaced w)

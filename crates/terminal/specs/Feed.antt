@@ -1,0 +1,58 @@
+-- Feeding bytes: the whole result, and what is left in the page and the reply buffer.
+use mathlib.Core.Bool.{Bool, true, false, cond}
+use mathlib.Core.List.{List}
+use Prim.Native.Nat.{ℕ}
+use lib.Dec.{ltb}
+use lib.ListN.{length, take}
+use lib.Seq.{sets}
+use Rattle.terminal.specs.declared.State.{State}
+use Rattle.terminal.specs.declared.Fed.{Fed}
+use Rattle.terminal.specs.declared.Answer.{Answer}
+use Rattle.terminal.specs.declared.Answer.the-variants.{Done, Broken, WrongSize, NoRoom, OffPage}
+use Rattle.terminal.specs.Steps.{Screen, ran, sent, readable}
+use Rattle.terminal.specs.Whole.{wholeState, rightSize}
+
+pub record Feed : Type 0 where
+  pub result : Fed
+  pub page : List ℕ
+  pub reply : List ℕ
+
+-- how many bytes are read
+abbrev pub readCount : State → List ℕ → List ℕ → ℕ
+readCount s i o = readable (length o) (s .core) i
+
+-- given exactly when
+abbrev pub feedAnswer : State → List ℕ → List ℕ → List ℕ → Answer
+feedAnswer s p i o =
+    let fits = cond (ltb (readCount s i o) (length i)) NoRoom Done in
+    cond (wholeState s) (cond (rightSize (s .core .rows) p) fits WrongSize) Broken
+
+abbrev pub screen : State → List ℕ → Screen
+screen s p = record { core = s .core; page = p; changed = s .changed }
+
+-- the first n bytes of the input are read, and their replies stand at the front of the buffer
+abbrev pub feedFirst : Answer → ℕ → State → List ℕ → List ℕ → List ℕ → Feed
+feedFirst a n s p i o =
+    let d = ran (screen s p) (take n i) in
+    let out = sent (s .core) (take n i) in
+    record {
+      result = record { answer = a; read = n; replied = length out; state = record { core = d .core; changed = d .changed } };
+      page = d .page;
+      reply = sets o 0 out;
+    }
+
+-- nothing read, nothing sent, all as it came
+abbrev pub feedRefused : Answer → State → List ℕ → List ℕ → Feed
+feedRefused a s p o = record { result = record { answer = a; read = 0; replied = 0; state = s }; page = p; reply = o }
+
+-- returned and left. Feeding does not answer 4.
+abbrev pub feedGives : Answer → State → List ℕ → List ℕ → List ℕ → Feed
+feedGives Done s p i o = feedFirst Done (readCount s i o) s p i o
+feedGives Broken s p i o = feedRefused Broken s p o
+feedGives WrongSize s p i o = feedRefused WrongSize s p o
+feedGives NoRoom s p i o = feedFirst NoRoom (readCount s i o) s p i o
+feedGives OffPage s p i o = feedRefused OffPage s p o
+
+-- a state, a page, the input and a reply buffer
+unfoldable pub fed : State → List ℕ → List ℕ → List ℕ → Feed
+fed s p i o = feedGives (feedAnswer s p i o) s p i o

@@ -1,0 +1,42 @@
+-- Starting: every cell blank and the state fresh. Refused, it returns the fresh 24-row state and leaves the page.
+use mathlib.Core.Bool.{Bool, true, false, cond}
+use mathlib.Core.List.{List}
+use Prim.Native.Nat.{ℕ, _*_}
+use lib.ListN.{replicate}
+use Rattle.cells.specs.Cells.{blank}
+use Rattle.vt.specs.Whole.{sized}
+use Rattle.vt.specs.Fresh.{freshCore}
+use Rattle.terminal.specs.declared.State.{State}
+use Rattle.terminal.specs.declared.Started.{Started}
+use Rattle.terminal.specs.declared.Answer.{Answer}
+use Rattle.terminal.specs.declared.Answer.the-variants.{Done, Broken, WrongSize, NoRoom, OffPage}
+use Rattle.terminal.specs.Whole.{rightSize}
+
+abbrev pub fresh : ℕ → State
+fresh r = record { core = freshCore r; changed = 0 }
+
+abbrev pub blankPage : ℕ → List ℕ
+blankPage r = replicate (80 * r) blank
+
+-- the result, and what is left in the page
+pub record Start : Type 0 where
+  pub result : Started
+  pub page : List ℕ
+
+-- given exactly when
+abbrev pub startAnswer : ℕ → List ℕ → Answer
+startAnswer r p = cond (sized r) (cond (rightSize r p) Done WrongSize) Broken
+
+abbrev pub startRefused : Answer → List ℕ → Start
+startRefused a p = record { result = record { answer = a; state = fresh 24 }; page = p }
+
+-- returned and left. A start gives no other answers.
+abbrev pub startGives : Answer → ℕ → List ℕ → Start
+startGives Done r p = record { result = record { answer = Done; state = fresh r }; page = blankPage r }
+startGives Broken r p = startRefused Broken p
+startGives WrongSize r p = startRefused WrongSize p
+startGives NoRoom r p = startRefused NoRoom p
+startGives OffPage r p = startRefused OffPage p
+
+unfoldable pub started : ℕ → List ℕ → Start
+started r p = startGives (startAnswer r p) r p

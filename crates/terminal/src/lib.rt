@@ -1,0 +1,43 @@
+// The terminal's calls: start, feed, ask for the changed rows, read a cell.
+use vt::core::Core;
+
+// The changed rows are bits of one number, row 1 the lowest.
+pub struct State {
+    pub core: Core,
+    pub changed: u64,
+}
+
+// What a call answers. Document 01's numbers are in specs/Answers.antt.
+pub enum Answer {
+    Done,
+    Broken,
+    WrongSize,
+    NoRoom,
+    OffPage,
+}
+
+pub struct Started {
+    pub answer: Answer,
+    pub state: State,
+}
+
+// How many bytes of the input were read, and how many were written to the reply buffer.
+pub struct Fed {
+    pub answer: Answer,
+    pub read: usize,
+    pub replied: usize,
+    pub state: State,
+}
+
+// The changed rows, and how many they are.
+pub struct Asked {
+    pub answer: Answer,
+    pub rows: u64,
+    pub count: u32,
+    pub state: State,
+}
+
+pub struct CellRead {
+    pub answer: Answer,
+    pub word: u16,
+}

@@ -1,0 +1,40 @@
+-- One byte: the next core, at most two edits, and the reply.
+use mathlib.Core.Bool.{Bool, true, false}
+use mathlib.Core.List.{List}
+use Prim.Native.Nat.{ℕ}
+use Rattle.vt.specs.declared.parser.Action.{Action}
+use Rattle.vt.specs.declared.parser.Action.the-variants.{Nothing, Character, Substitute, Control, C1Control, EscapeSequence, ControlSequence}
+use Rattle.vt.specs.declared.reply.Reply.{Reply}
+use Rattle.vt.specs.declared.core.Core.{Core}
+use Rattle.vt.specs.declared.core.Decision.{Decision}
+use Rattle.vt.specs.Parser.{decode}
+use Rattle.vt.specs.Printing.{printed, substituted}
+use Rattle.vt.specs.Controls.{controlled, c1Controlled}
+use Rattle.vt.specs.Escapes.{escaped}
+use Rattle.vt.specs.Sequences.{sequenced}
+use Rattle.vt.specs.WrapDue.{clearsWrap, settled}
+use Rattle.vt.specs.Replies.{replyTo, replyBytes}
+use Rattle.vt.specs.Effects.{withParser, quiet}
+
+-- what an action does, but for wrap due
+abbrev pub effect : Core → Action → Decision
+effect c Nothing = quiet c
+effect c (Character b) = printed c b
+effect c Substitute = substituted c
+effect c (Control b) = controlled c b
+effect c (C1Control b) = c1Controlled c b
+effect c (EscapeSequence first second last) = escaped c first second last
+effect c (ControlSequence mark first second last) = sequenced c (c .parser .params) mark first second last
+
+unfoldable pub executed : Core → Action → Decision
+executed c a = settled (clearsWrap c a) (effect c a)
+
+-- the parser takes the byte first; its parameters are those of the action
+unfoldable pub decided : Core → ℕ → Decision
+decided c b =
+    let d = decode (c .parser) b in
+    executed (withParser c (d .parser)) (d .action)
+
+-- the bytes that a byte sends, which depend on no page
+unfoldable pub sends : Core → ℕ → List ℕ
+sends c b = replyBytes (c .modes .eightbit) (replyTo c (decode (c .parser) b .action))

@@ -1,0 +1,35 @@
+-- The fresh state (document 01, "The page and the state"), but for the changed rows, of which there are none.
+use mathlib.Core.Bool.{Bool, true, false}
+use Prim.Native.Nat.{ℕ}
+use Rattle.cells.specs.Cells.{plain}
+use Rattle.vt.specs.declared.charsets.SingleShift.the-variants.{NoShift}
+use Rattle.vt.specs.declared.parser.Phase.the-variants.{Ground}
+use Rattle.vt.specs.declared.core.Modes.{Modes}
+use Rattle.vt.specs.declared.core.Saved.{Saved}
+use Rattle.vt.specs.declared.core.Core.{Core}
+use Rattle.vt.specs.Parser.{cleared}
+use Rattle.vt.specs.Tabs.{everyEighth}
+use Rattle.vt.specs.Charsets.{freshSets}
+use Rattle.vt.specs.Cursor.{place}
+
+-- modes off but cursor shown
+abbrev pub freshModes : Modes
+freshModes = record { insert = false; newline = false; origin = false; autowrap = false; shown = true; eightbit = false }
+
+abbrev pub freshSaved : Saved
+freshSaved = record { cursor = place 1 1; rendition = plain; origin = false; sets = freshSets }
+
+unfoldable pub freshCore : ℕ → Core
+freshCore r = record {
+  rows = r;
+  cursor = place 1 1;
+  margins = record { top = 1; bottom = r };
+  tabs = everyEighth;
+  modes = freshModes;
+  rendition = plain;
+  protected = false;
+  sets = freshSets;
+  shift = NoShift;
+  saved = freshSaved;
+  parser = cleared Ground;
+}

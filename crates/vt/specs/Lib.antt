@@ -1,0 +1,15 @@
+pub mod Params
+pub mod Parser
+pub mod Tabs
+pub mod Charsets
+pub mod Cursor
+pub mod Fresh
+pub mod Whole
+pub mod Effects
+pub mod Printing
+pub mod Controls
+pub mod Escapes
+pub mod Sequences
+pub mod WrapDue
+pub mod Replies
+pub mod Decide

@@ -1,0 +1,9 @@
+// All of the terminal that needs no page: what a byte does to its state, which edits it makes of the
+// page, and what it replies.
+pub mod charsets;
+pub mod core;
+pub mod cursor;
+pub mod params;
+pub mod parser;
+pub mod reply;
+pub mod tabs;
