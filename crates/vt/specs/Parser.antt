@@ -1,6 +1,6 @@
 -- Reading bytes (document 01, the section of that name): each phase of the parser against all 256 byte values, by range rules.
 use mathlib.Core.Bool.{Bool, true, false, cond, _&&_, _||_}
-use Prim.Native.Nat.{ℕ, _+_, _-_, _%_}
+use Prim.Native.Nat.{ℕ, _+_, _-_}
 use lib.Dec.{eqb, leb, ltb}
 use Rattle.vt.specs.Params.{noParams, withDigit, withSeparator}
 use Rattle.vt.specs.declared.parser.Phase.{Phase}
@@ -57,9 +57,13 @@ sequenceRule CsiTwo x = intermediateRule x (to CsiIgnore Ignore)
 sequenceRule CsiIgnore x = cond (ltb x 0x40) (to CsiIgnore Ignore) (to Ground Ignore)
 sequenceRule StringText x = to StringText Ignore
 
--- in a sequence controls act at once, 7F is skipped, and A0 to FF are read as 80 less
+-- A0 to FF are read as 80 less
+abbrev pub lowered : ℕ → ℕ
+lowered b = cond (leb 0x80 b) (b - 0x80) b
+
+-- in a sequence controls act at once, 7F is skipped
 abbrev pub inSequence : Phase → ℕ → Transition
-inSequence p b = cond (ltb b 0x20) (to p Execute) (cond (eqb (b % 128) 0x7F) (to p Ignore) (sequenceRule p (b % 128)))
+inSequence p b = cond (ltb b 0x20) (to p Execute) (cond (eqb (lowered b) 0x7F) (to p Ignore) (sequenceRule p (lowered b)))
 
 -- the bytes that do not act alike in every phase
 abbrev pub phaseRule : Phase → ℕ → Transition
@@ -135,9 +139,9 @@ kept s p Sub b = inPhase p s
 kept s p Execute b = inPhase p s
 kept s p C1 b = inPhase p s
 kept s p Clear b = cleared p
-kept s p Collect b = collected p s (b % 128)
-kept s p Mark b = marked p s (b % 128)
-kept s p Param b = gathered p s (b % 128)
+kept s p Collect b = collected p s (lowered b)
+kept s p Mark b = marked p s (lowered b)
+kept s p Param b = gathered p s (lowered b)
 kept s p EscDispatch b = inPhase p s
 kept s p CsiDispatch b = inPhase p s
 
@@ -152,7 +156,7 @@ secondOf s = cond (leb 2 (intermediates (s .phase))) (s .second) 0
 
 -- ESC 40 to 5F is the byte 40 higher
 abbrev pub c1Byte : ℕ → ℕ
-c1Byte b = cond (between 0x80 b 0x9F) b (b % 128 + 0x40)
+c1Byte b = cond (between 0x80 b 0x9F) b (lowered b + 0x40)
 
 abbrev pub asked : Parser → Op → ℕ → Action
 asked s Ignore b = Nothing
@@ -164,8 +168,8 @@ asked s Clear b = Nothing
 asked s Collect b = Nothing
 asked s Mark b = Nothing
 asked s Param b = Nothing
-asked s EscDispatch b = EscapeSequence (firstOf s) (secondOf s) (b % 128)
-asked s CsiDispatch b = ControlSequence (s .mark) (firstOf s) (secondOf s) (b % 128)
+asked s EscDispatch b = EscapeSequence (firstOf s) (secondOf s) (lowered b)
+asked s CsiDispatch b = ControlSequence (s .mark) (firstOf s) (secondOf s) (lowered b)
 
 -- one byte
 unfoldable pub decode : Parser → ℕ → Decoded
