@@ -1,0 +1,5 @@
+pub mod Lists
+pub mod BitLaws
+pub mod Parts
+pub mod RowLaws
+pub mod EditLaws
