@@ -3,3 +3,5 @@ pub mod BitLaws
 pub mod Parts
 pub mod RowLaws
 pub mod EditLaws
+pub mod ChangeLaws
+pub mod Redoing
