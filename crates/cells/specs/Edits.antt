@@ -55,6 +55,22 @@ applied n e p =
     let rs = rowsOf n p in
     joined n (after e (nth rs))
 
+-- ---- the cells that an edit may write
+
+abbrev pub between : ℕ → ℕ → ℕ → Bool
+between a e k = leb a k && ltb k e
+
+-- whether the cell in row k and column j is among them
+abbrev pub target : Edit → ℕ → ℕ → Bool
+target Keep k j = false
+target (Put r c w) k j = eqb k r && eqb j c
+target (InsertCells r c e n w) k j = eqb k r && between c e j
+target (DeleteCells r c e n) k j = eqb k r && between c e j
+target (ScrollUp t e a z n) k j = between t e k && between a z j
+target (ScrollDown t e a z n) k j = between t e k && between a z j
+target (Fill a z w) k j = between a z (80 * k + j)
+target (SelectiveErase a z) k j = between a z (80 * k + j)
+
 -- no edit at all
 abbrev pub isKeep : Edit → Bool
 isKeep Keep = true

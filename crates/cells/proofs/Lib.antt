@@ -1,0 +1,7 @@
+pub mod Lists
+pub mod BitLaws
+pub mod Parts
+pub mod RowLaws
+pub mod EditLaws
+pub mod ChangeLaws
+pub mod Redoing

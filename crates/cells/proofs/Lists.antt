@@ -1,0 +1,123 @@
+-- Laws of lists of words: what a paste puts and what it leaves, and when two lists differ.
+use mathlib.Core.Path.{_≡_, refl, sym, ap, ap₂, _∙_}
+use mathlib.Core.Bool.{Bool, true, false, not, _||_, false≢true, or-false, or-assoc}
+use mathlib.Core.List.{List, [], _∷_, _++_, append-assoc, append-nil}
+use mathlib.Core.Logic.{_⊎_, inl, inr, ⊎-elim}
+use Prim.Native.Nat.{ℕ, zero, suc, _+_, _-_, _*_, _≤_, _<_}
+use native.Mathlib.Nat.{zero-add, le-of-eq}
+use native.Mathlib.Numerals.{add-one}
+use native.Mathlib.Omega.{arith}
+use lib.Dec.{eqb, ltb}
+use lib.ListN.{length, getD, take, drop, replicate, length-take, length-replicate, length-append, List·getD-append}
+use lib.Seq.{paste, length-paste-head, drop-paste, getD-drop, getD-take, getD-append-add, take-suc, take-all, drop-length}
+use borrow.Author.Tests.{eq-eqb, ltb-true, ltb-false, eqb-true, eqb-false}
+use Rattle.cells.specs.Rows.{differs}
+
+-- ---- a number is below another or not, and equal to it or not
+
+pub split-lt : (a b : ℕ) → (a < b) ⊎ (b ≤ a)
+split-lt a b = go (ltb a b) refl
+  where
+    go : (t : Bool) → ltb a b ≡ t → (a < b) ⊎ (b ≤ a)
+    go true e = inl (ltb-true a b e)
+    go false e = inr (ltb-false a b e)
+
+pub split-eq : (a b : ℕ) → (a ≡ b) ⊎ (a ≡ b → ⊥)
+split-eq a b = go (eqb a b) refl
+  where
+    go : (t : Bool) → eqb a b ≡ t → (a ≡ b) ⊎ (a ≡ b → ⊥)
+    go true e = inl (eqb-true a b e)
+    go false e = inr (eqb-false a b e)
+
+-- ---- a paste, place by place
+
+module _ (d : List ℕ) (at : ℕ) (s : List ℕ) (n : ℕ) (hd : at + n ≤ length d) (hs : n ≤ length s) where
+  paste-before : (i : ℕ) → i < at → getD (paste d at s n) i 0 ≡ getD d i 0
+  paste-before i h =
+      let l : i < length (take at d) = simp length-take (omega arith) in
+      ap (λ (x : List ℕ). getD x i 0) (append-assoc (take at d) (take n s) (drop (at + n) d))
+      ∙ List·getD-append (take at d) (take n s ++ drop (at + n) d) 0 i l ∙ getD-take at d i 0 h
+
+  paste-past : (i : ℕ) → at + n ≤ i → getD (paste d at s n) i 0 ≡ getD d i 0
+  paste-past i h =
+      let e : i ≡ at + n + (i - (at + n)) = omega arith in
+      ap (λ (j : ℕ). getD (paste d at s n) j 0) e
+      ∙ sym (getD-drop (at + n) (paste d at s n) (i - (at + n)) 0)
+      ∙ ap (λ (l : List ℕ). getD l (i - (at + n)) 0) (drop-paste d at s n (omega arith) hs)
+      ∙ getD-drop (at + n) d (i - (at + n)) 0
+      ∙ ap (λ (j : ℕ). getD d j 0) (sym e)
+
+  -- a place outside holds what it held
+  pub paste-outside : (i : ℕ) → (i < at) ⊎ (at + n ≤ i) → getD (paste d at s n) i 0 ≡ getD d i 0
+  paste-outside i = ⊎-elim (paste-before i) (paste-past i)
+
+  -- and a place inside what was pasted there
+  pub paste-inside : (j : ℕ) → j < n → getD (paste d at s n) (at + j) 0 ≡ getD s j 0
+  paste-inside j h =
+      let l : length (take at d) ≡ at = simp length-take (omega arith) in
+      let m : j < length (take n s) = simp length-take (omega arith) in
+      ap (λ (x : List ℕ). getD x (at + j) 0) (append-assoc (take at d) (take n s) (drop (at + n) d))
+      ∙ ap (λ (k : ℕ). getD (take at d ++ (take n s ++ drop (at + n) d)) (k + j) 0) (sym l)
+      ∙ getD-append-add (take at d) (take n s ++ drop (at + n) d) j 0
+      ∙ List·getD-append (take n s) (drop (at + n) d) 0 j m
+      ∙ getD-take n s j 0 h
+
+-- a list that is replaced whole
+pub paste-whole : (d : List ℕ) (w : ℕ) → paste d 0 (replicate (length d) w) (length d) ≡ replicate (length d) w
+paste-whole d w =
+    ap₂ (λ (a b : List ℕ). a ++ b) (take-all (length d) (replicate (length d) w) (le-of-eq (length-replicate (length d) w))) (ap (λ (k : ℕ). drop k d) (zero-add (length d)) ∙ drop-length d)
+    ∙ append-nil (replicate (length d) w)
+
+-- ---- two lists that differ
+
+pub differs-self : (xs : List ℕ) → differs xs xs ≡ false
+differs-self [] = refl
+differs-self (x ∷ xs) = rw (eq-eqb x x refl) (differs-self xs)
+
+pub differs-append : (a b c d : List ℕ) → length a ≡ length c → differs (a ++ b) (c ++ d) ≡ differs a c || differs b d
+differs-append [] b [] d e = refl
+differs-append [] b (y ∷ c) d e = absurd (omega arith)
+differs-append (x ∷ a) b [] d e = absurd (omega arith)
+differs-append (x ∷ a) b (y ∷ c) d e = rw (differs-append a b c d (omega arith)) (sym (or-assoc (not (eqb x y)) (differs a c) (differs b d)))
+
+-- one more place compared
+pub differs-more : (a b : List ℕ) (k : ℕ) → k < length a → k < length b
+    → differs (take (k + 1) a) (take (k + 1) b) ≡ differs (take k a) (take k b) || not (eqb (getD a k 0) (getD b k 0))
+differs-more a b k ha hb =
+    rw (add-one, take-suc a k 0 ha, take-suc b k 0 hb, differs-append (take k a) (getD a k 0 ∷ []) (take k b) (getD b k 0 ∷ []) (simp length-take (omega arith)))
+    (ap (λ (t : Bool). differs (take k a) (take k b) || t) (or-false (not (eqb (getD a k 0) (getD b k 0)))))
+
+-- what a comparison of two lists finds: they are equal, or some place has another word
+pub record Apart (xs ys : List ℕ) : Type 0 where
+  pub place : ℕ
+  pub inside : place < length xs
+  pub another : getD xs place 0 ≡ getD ys place 0 → ⊥
+
+pub differs-none : (xs ys : List ℕ) → length xs ≡ length ys → differs xs ys ≡ false → xs ≡ ys
+differs-none [] [] l e = refl
+differs-none [] (y ∷ ys) l e = absurd (omega arith)
+differs-none (x ∷ xs) [] l e = absurd (omega arith)
+differs-none (x ∷ xs) (y ∷ ys) l e = go (eqb x y) refl e (differs-none xs ys (omega arith))
+  where
+    go : (t : Bool) → eqb x y ≡ t → not t || differs xs ys ≡ false → (differs xs ys ≡ false → xs ≡ ys) → x ∷ xs ≡ y ∷ ys
+    go true q h rest = ap₂ (λ (a : ℕ) (b : List ℕ). a ∷ b) (eqb-true x y q) (rest h)
+    go false q h rest = absurd (false≢true (sym h))
+
+pub differs-some : (xs ys : List ℕ) → length xs ≡ length ys → differs xs ys ≡ true → Apart xs ys
+differs-some [] ys l e = absurd (false≢true e)
+differs-some (x ∷ xs) [] l e = absurd (omega arith)
+differs-some (x ∷ xs) (y ∷ ys) l e = go (eqb x y) refl e (differs-some xs ys (omega arith))
+  where
+    go : (t : Bool) → eqb x y ≡ t → not t || differs xs ys ≡ true → (differs xs ys ≡ true → Apart xs ys) → Apart (x ∷ xs) (y ∷ ys)
+    go true q h more =
+        let a = more h in
+        record { place = suc (a .place); inside = omega arith; another = a .another }
+    go false q h more = record { place = 0; inside = omega arith; another = eqb-false x y q }
+
+-- two lists that have another word at some place differ
+pub differs-apart : (xs ys : List ℕ) → length xs ≡ length ys → (i : ℕ) → (getD xs i 0 ≡ getD ys i 0 → ⊥) → differs xs ys ≡ true
+differs-apart xs ys l i ne = go (differs xs ys) refl
+  where
+    go : (t : Bool) → differs xs ys ≡ t → t ≡ true
+    go true e = refl
+    go false e = absurd (ne (ap (λ (z : List ℕ). getD z i 0) (differs-none xs ys l e)))

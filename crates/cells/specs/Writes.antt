@@ -1,0 +1,32 @@
+-- What the functions that write a page promise: of a few words, of rows, of an edit.
+use mathlib.Core.Bool.{Bool, true, cond}
+use mathlib.Core.List.{List}
+use mathlib.Core.Path.{_≡_}
+use Prim.Native.Nat.{ℕ, _*_, _≤_}
+use lib.ListN.{length, take, drop}
+use lib.Seq.{paste}
+use Rattle.cells.specs.declared.Edit.{Edit}
+use Rattle.cells.specs.Rows.{row, differs}
+use Rattle.cells.specs.Sets.{bitsOf, changed}
+use Rattle.cells.specs.Edits.{after, Within}
+
+-- q is p with its n words from place `at` replaced by the first n of s, and the flag says whether one of them is another word
+pub record Pasted (p q : List ℕ) (at : ℕ) (s : List ℕ) (n : ℕ) (flag : Bool) : Type 0 where
+  pub page : q ≡ paste p at s n
+  pub flagged : flag ≡ differs (take n (drop at p)) (take n s)
+
+-- row j of q is g j where `done` holds of j, else it is row j of p, and the bits are those of the rows that differ
+pub record Redone (p q : List ℕ) (done : ℕ → Bool) (g : ℕ → List ℕ) (bits : ℕ) : Type 0 where
+  pub long : length q ≡ length p
+  pub rows : (j : ℕ) → row q j ≡ cond (done j) (g j) (row p j)
+  pub marked : bits ≡ bitsOf 64 (changed p q)
+
+-- each row is what it is after an edit
+abbrev pub Edited : Edit → List ℕ → List ℕ → ℕ → Type 0
+Edited e p q bits = Redone p q (λ j. true) (after e (row p)) bits
+
+-- an edit that stays on a page of n rows, which are not more than a u64 has bits
+pub record Fits (n : ℕ) (e : Edit) (p : List ℕ) : Type 0 where
+  pub long : length p ≡ 80 * n
+  pub few : n ≤ 64
+  pub within : Within n e
