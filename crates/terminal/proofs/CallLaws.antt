@@ -1,0 +1,158 @@
+-- Each call's definition, by case.
+use mathlib.Core.Path.{_≡_, refl, sym, ap, _∙_, subst}
+use mathlib.Core.Bool.{Bool, true, false, cond, _&&_, false≢true}
+use mathlib.Core.List.{List, [], _∷_}
+use Prim.Native.Nat.{ℕ, _*_, _^_, _≤_, _<_}
+use native.Mathlib.Omega.{arith}
+use lib.Dec.{eqb, ltb}
+use lib.ListN.{length}
+use borrow.Author.Tests.{eq-eqb, ne-eqb, eqb-true, eqb-false, ltb-true, lt-ltb}
+use Rattle.vt.specs.Whole.{Whole, wholeCore, sized}
+use Rattle.vt.proofs.Tests.{and-left, and-right, and-both}
+use Rattle.vt.proofs.Wholeness.{facts, tested}
+use Rattle.terminal.specs.declared.State.{State}
+use Rattle.terminal.specs.declared.Answer.{Answer}
+use Rattle.terminal.specs.declared.Answer.the-variants.{Done, Broken, WrongSize, NoRoom, OffPage}
+use Rattle.terminal.specs.Answers.{number, refusal}
+use Rattle.terminal.specs.Whole.{wholeState, WholeState, rightSize}
+use Rattle.terminal.specs.Start.{Start, fresh, blankPage, startGives, started}
+use Rattle.terminal.specs.Feed.{Feed, readCount, screen, feedFirst, feedRefused, feedGives, fed}
+use Rattle.terminal.specs.Ask.{askDone, askRefused, asked}
+use Rattle.terminal.specs.Read.{onPage, cellAt, cellRead}
+use Rattle.terminal.proofs.StepLaws.{Sane}
+
+-- ---- whole states
+
+pub state-facts : (s : State) → wholeState s ≡ true → WholeState s
+unfolding wholeState
+state-facts s e = record {
+    core = facts (s .core) (and-left (wholeCore (s .core)) (ltb (s .changed) (2 ^ s .core .rows)) e);
+    changed = ltb-true (s .changed) (2 ^ s .core .rows) (and-right (wholeCore (s .core)) (ltb (s .changed) (2 ^ s .core .rows)) e) }
+
+pub state-tested : (s : State) → WholeState s → wholeState s ≡ true
+unfolding wholeState
+state-tested s w = and-both (wholeCore (s .core)) (ltb (s .changed) (2 ^ s .core .rows)) (tested (s .core) (w .core)) (lt-ltb (s .changed) (2 ^ s .core .rows) (w .changed))
+
+pub sane-screen : (s : State) (p : List ℕ) → wholeState s ≡ true → length p ≡ 80 * s .core .rows → Sane (s .core .rows) (screen s p)
+sane-screen s p e h =
+    let w = state-facts s e in
+    record { whole = w .core; rows = refl; size = h; few = w .changed }
+
+-- ---- feeding
+
+-- the answer of a feeding that is not refused
+abbrev pub fitting : State → List ℕ → List ℕ → Answer
+fitting s i o = cond (ltb (readCount s i o) (length i)) NoRoom Done
+
+module _ (s : State) (p i o : List ℕ) where
+  pub fed-broken : wholeState s ≡ false → fed s p i o ≡ feedRefused Broken s p o
+  unfolding fed
+  fed-broken e = rw e
+
+  pub fed-size : wholeState s ≡ true → (length p ≡ 80 * s .core .rows → ⊥) → fed s p i o ≡ feedRefused WrongSize s p o
+  unfolding fed
+  fed-size e h = rw (e, ne-eqb _ _ h)
+
+  fitting-gives : (t : Bool) → feedGives (cond t NoRoom Done) s p i o ≡ feedFirst (cond t NoRoom Done) (readCount s i o) s p i o
+  fitting-gives true = refl
+  fitting-gives false = refl
+
+  pub fed-run : wholeState s ≡ true → length p ≡ 80 * s .core .rows → fed s p i o ≡ feedFirst (fitting s i o) (readCount s i o) s p i o
+  unfolding fed
+  fed-run e h = rw (e, eq-eqb _ _ h) (fitting-gives (ltb (readCount s i o) (length i)))
+
+  -- which of the three it is
+  pub fed-cases : {C : Type 0} → (wholeState s ≡ false → C) → (wholeState s ≡ true → (length p ≡ 80 * s .core .rows → ⊥) → C)
+      → (wholeState s ≡ true → length p ≡ 80 * s .core .rows → C) → C
+  fed-cases {C} broken size run = go (wholeState s) refl (eqb (length p) (80 * s .core .rows)) refl
+    where
+      go : (t : Bool) → wholeState s ≡ t → (u : Bool) → eqb (length p) (80 * s .core .rows) ≡ u → C
+      go true e true g = run e (eqb-true (length p) (80 * s .core .rows) g)
+      go true e false g = size e (eqb-false (length p) (80 * s .core .rows) g)
+      go false e u g = broken e
+
+pub true≢false : true ≡ false → ⊥
+true≢false e = false≢true (sym e)
+
+pub run-refusal : (t : Bool) → refusal (cond t NoRoom Done) ≡ false
+run-refusal true = refl
+run-refusal false = refl
+
+pub run-number : (t : Bool) → number (cond t NoRoom Done) ≡ cond t 3 0
+run-number true = refl
+run-number false = refl
+
+-- a feeding that is not refused was given a whole state and a page of its size
+pub record Taken (s : State) (p : List ℕ) : Type 0 where
+  pub whole : wholeState s ≡ true
+  pub size : length p ≡ 80 * s .core .rows
+
+module _ (s : State) (p i o : List ℕ) where
+  answer-by : (f : Feed) → fed s p i o ≡ f → (t : Bool) → refusal (fed s p i o .result .answer) ≡ t → refusal (f .result .answer) ≡ t
+  answer-by f e t h = subst (λ (a : Feed). refusal (a .result .answer) ≡ t) e h
+
+  pub fed-taken : refusal (fed s p i o .result .answer) ≡ false → Taken s p
+  fed-taken h =
+      fed-cases s p i o
+      (λ e. absurd (true≢false (answer-by (feedRefused Broken s p o) (fed-broken s p i o e) false h)))
+      (λ e n. absurd (true≢false (answer-by (feedRefused WrongSize s p o) (fed-size s p i o e n) false h)))
+      (λ e n. record { whole = e; size = n })
+
+  -- a refused one leaves everything as it came
+  pub fed-left : refusal (fed s p i o .result .answer) ≡ true → (a : Answer) × (fed s p i o ≡ feedRefused a s p o)
+  fed-left h =
+      fed-cases s p i o
+      (λ e. (Broken, fed-broken s p i o e))
+      (λ e n. (WrongSize, fed-size s p i o e n))
+      (λ e n. absurd (false≢true (sym (run-refusal (ltb (readCount s i o) (length i)))
+        ∙ answer-by (feedFirst (fitting s i o) (readCount s i o) s p i o) (fed-run s p i o e n) true h)))
+
+-- ---- asking and reading
+
+pub asked-done : (s : State) → wholeState s ≡ true → asked s ≡ askDone s
+unfolding asked
+asked-done s e = rw e
+
+pub asked-broken : (s : State) → wholeState s ≡ false → asked s ≡ askRefused Broken s
+unfolding asked
+asked-broken s e = rw e
+
+pub asked-whole : (s : State) → refusal (asked s .answer) ≡ false → wholeState s ≡ true
+asked-whole s h = go (wholeState s) refl
+  where
+    go : (t : Bool) → wholeState s ≡ t → wholeState s ≡ true
+    go true e = e
+    go false e = absurd (true≢false (rw (asked-broken s e) at h))
+
+pub read-word : (s : State) (p : List ℕ) (r c : ℕ) → refusal (cellRead s p r c .answer) ≡ false → cellRead s p r c .word ≡ cellAt p r c
+unfolding cellRead
+read-word s p r c h = go (wholeState s) refl (eqb (length p) (80 * s .core .rows)) refl (onPage (s .core .rows) r c) refl
+  where
+    go : (t : Bool) → wholeState s ≡ t → (u : Bool) → eqb (length p) (80 * s .core .rows) ≡ u → (v : Bool) → onPage (s .core .rows) r c ≡ v
+        → cellRead s p r c .word ≡ cellAt p r c
+    go true e true g true k = rw (e, g, k)
+    go true e true g false k = absurd (true≢false (rw (e, g, k) at h))
+    go true e false g v k = absurd (true≢false (rw (e, g) at h))
+    go false e u g v k = absurd (true≢false (rw e at h))
+
+-- ---- the start
+
+pub record Begun (r : ℕ) (p : List ℕ) : Type 0 where
+  pub size : sized r ≡ true
+  pub long : length p ≡ 80 * r
+  pub is : started r p ≡ startGives Done r p
+
+pub started-done : (r : ℕ) (p : List ℕ) → started r p .result .answer ≡ Done → Begun r p
+unfolding started
+started-done r p h = go (sized r) refl (eqb (length p) (80 * r)) refl
+  where
+    go : (t : Bool) → sized r ≡ t → (u : Bool) → eqb (length p) (80 * r) ≡ u → Begun r p
+    go true e true g = record { size = e; long = eqb-true (length p) (80 * r) g; is = rw (e, g) }
+    go true e false g = absurd (apart (rw (e, g) at h))
+      where
+        apart : WrongSize ≡ Done → ⊥
+        apart q = let z : _≡_ {A = ℕ} 0 1 = cc in omega arith
+    go false e u g = absurd (apart (rw e at h))
+      where
+        apart : Broken ≡ Done → ⊥
+        apart q = let z : _≡_ {A = ℕ} 0 1 = cc in omega arith
