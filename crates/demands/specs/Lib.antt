@@ -1,1 +1,3 @@
 pub mod Model
+pub mod World
+pub mod Statements

@@ -3,22 +3,21 @@ use mathlib.Core.Path.{_≡_, refl, sym, ap, _∙_, subst}
 use mathlib.Core.Bool.{Bool, true, false, cond, _&&_, false≢true}
 use mathlib.Core.List.{List, [], _∷_}
 use Prim.Native.Nat.{ℕ, _*_, _^_, _≤_, _<_}
-use native.Mathlib.Omega.{arith}
 use lib.Dec.{eqb, ltb}
 use lib.ListN.{length}
 use borrow.Author.Tests.{eq-eqb, ne-eqb, eqb-true, eqb-false, ltb-true, lt-ltb}
-use Rattle.vt.specs.Whole.{Whole, wholeCore, sized}
+use Rattle.vt.specs.Whole.{wholeCore}
 use Rattle.vt.proofs.Tests.{and-left, and-right, and-both}
 use Rattle.vt.proofs.Wholeness.{facts, tested}
 use Rattle.terminal.specs.declared.State.{State}
 use Rattle.terminal.specs.declared.Answer.{Answer}
 use Rattle.terminal.specs.declared.Answer.the-variants.{Done, Broken, WrongSize, NoRoom, OffPage}
 use Rattle.terminal.specs.Answers.{number, refusal}
-use Rattle.terminal.specs.Whole.{wholeState, WholeState, rightSize}
-use Rattle.terminal.specs.Start.{Start, fresh, blankPage, startGives, started}
+use Rattle.terminal.specs.Whole.{wholeState, WholeState}
+use Rattle.terminal.specs.Start.{startAnswer, startGives, started}
 use Rattle.terminal.specs.Feed.{Feed, readCount, screen, feedFirst, feedRefused, feedGives, fed}
 use Rattle.terminal.specs.Ask.{askDone, askRefused, asked}
-use Rattle.terminal.specs.Read.{onPage, cellAt, cellRead}
+use Rattle.terminal.specs.Read.{readAnswer, readWord, cellRead}
 use Rattle.terminal.proofs.StepLaws.{Sane}
 
 -- ---- whole states
@@ -124,35 +123,12 @@ asked-whole s h = go (wholeState s) refl
     go true e = e
     go false e = absurd (true≢false (rw (asked-broken s e) at h))
 
-pub read-word : (s : State) (p : List ℕ) (r c : ℕ) → refusal (cellRead s p r c .answer) ≡ false → cellRead s p r c .word ≡ cellAt p r c
+pub read-as : (s : State) (p : List ℕ) (r c : ℕ) (a : Answer) → readAnswer s p r c ≡ a → cellRead s p r c ≡ record { answer = a; word = readWord a p r c }
 unfolding cellRead
-read-word s p r c h = go (wholeState s) refl (eqb (length p) (80 * s .core .rows)) refl (onPage (s .core .rows) r c) refl
-  where
-    go : (t : Bool) → wholeState s ≡ t → (u : Bool) → eqb (length p) (80 * s .core .rows) ≡ u → (v : Bool) → onPage (s .core .rows) r c ≡ v
-        → cellRead s p r c .word ≡ cellAt p r c
-    go true e true g true k = rw (e, g, k)
-    go true e true g false k = absurd (true≢false (rw (e, g, k) at h))
-    go true e false g v k = absurd (true≢false (rw (e, g) at h))
-    go false e u g v k = absurd (true≢false (rw e at h))
+read-as s p r c a e = ap (λ (x : Answer). record { answer = x; word = readWord x p r c }) e
 
 -- ---- the start
 
-pub record Begun (r : ℕ) (p : List ℕ) : Type 0 where
-  pub size : sized r ≡ true
-  pub long : length p ≡ 80 * r
-  pub is : started r p ≡ startGives Done r p
-
-pub started-done : (r : ℕ) (p : List ℕ) → started r p .result .answer ≡ Done → Begun r p
+pub started-as : (r : ℕ) (p : List ℕ) (a : Answer) → startAnswer r p ≡ a → started r p ≡ startGives a r p
 unfolding started
-started-done r p h = go (sized r) refl (eqb (length p) (80 * r)) refl
-  where
-    go : (t : Bool) → sized r ≡ t → (u : Bool) → eqb (length p) (80 * r) ≡ u → Begun r p
-    go true e true g = record { size = e; long = eqb-true (length p) (80 * r) g; is = rw (e, g) }
-    go true e false g = absurd (apart (rw (e, g) at h))
-      where
-        apart : WrongSize ≡ Done → ⊥
-        apart q = let z : _≡_ {A = ℕ} 0 1 = cc in omega arith
-    go false e u g = absurd (apart (rw e at h))
-      where
-        apart : Broken ≡ Done → ⊥
-        apart q = let z : _≡_ {A = ℕ} 0 1 = cc in omega arith
+started-as r p a e = ap (λ (x : Answer). startGives x r p) e

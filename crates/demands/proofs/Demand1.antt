@@ -1,0 +1,309 @@
+-- S2, S3, S4 and S8: states stay whole, replies are short, any bytes are taken without harm, and what an edit changes.
+use mathlib.Core.Path.{_≡_, refl, sym, ap, _∙_, subst}
+use mathlib.Core.Bool.{Bool, true, false, cond, false≢true}
+use mathlib.Core.List.{List, [], _∷_, _++_}
+use mathlib.Core.Logic.{_↔_}
+use Prim.Native.Nat.{ℕ, zero, suc, _+_, _-_, _*_, _^_, _≤_, _<_, zero-le, suc-le-suc}
+use native.Mathlib.Nat.{zero-add}
+use native.Mathlib.Omega.{arith}
+use lib.Dec.{eqb, ltb}
+use lib.Pow.{pow-pos}
+use lib.ListN.{length, getD, take, drop, length-append}
+use lib.Seq.{sets, sets-eq, length-sets, drop-at}
+use borrow.Author.Tests.{le-ltb, ltb-true, ltb-false, eqb-true, eqb-false, eq-eqb, ne-eqb}
+use Rattle.cells.proofs.EditLaws.{every-edit}
+use Rattle.vt.specs.declared.core.Core.{Core}
+use Rattle.vt.specs.Whole.{sized}
+use Rattle.vt.specs.Fresh.{freshCore}
+use Rattle.vt.specs.Decide.{decided, sends}
+use Rattle.vt.proofs.Sound.{fresh-whole}
+use Rattle.vt.proofs.ReplyLength.{sends-short}
+use Rattle.terminal.specs.declared.State.{State}
+use Rattle.terminal.specs.declared.Answer.{Answer}
+use Rattle.terminal.specs.declared.Answer.the-variants.{Done, Broken, WrongSize, NoRoom, OffPage}
+use Rattle.terminal.specs.Answers.{number, refusal}
+use Rattle.terminal.specs.Steps.{Screen, stepped, ran, ranCore, sent, readable}
+use Rattle.terminal.specs.Whole.{wholeState, WholeState}
+use Rattle.terminal.specs.Start.{Start, fresh, blankPage, started}
+use Rattle.terminal.specs.Feed.{Feed, readCount, screen, feedFirst, feedRefused, fed}
+use Rattle.terminal.specs.Ask.{asked, askDone, askRefused}
+use Rattle.terminal.specs.declared.Asked.{Asked}
+use Rattle.terminal.specs.declared.CellRead.{CellRead}
+use Rattle.terminal.specs.Read.{onPage, cellRead}
+use Rattle.terminal.proofs.StepLaws.{Sane, sane-step, sane-ran, ran-core, sent-fits, readable-most, readable-fits}
+use Rattle.terminal.proofs.CallLaws.{state-facts, state-tested, sane-screen, fitting, fed-broken, fed-size, fed-run, fed-cases, Taken, fed-taken, fed-left, asked-done, asked-broken, asked-whole, started-as, read-as}
+use Rattle.demands.specs.Statements.{Sized, stateOf, FreshWhole, KeptWhole, StepWhole, StartWhole, FeedWhole, AskWhole, RepliesShort, NextTooLong, FeedAnswers, FeedExact, Untouched, FeedRefused, DoneUpTo, FeedDoes, RestKept, ReplyKept, Progress, StartAnswers, StartExact, AskAnswers, AskExact, ReadAnswers, ReadExact, EveryEdit}
+
+-- ---- S2
+
+fresh-rows : (r : ℕ) → fresh r .core .rows ≡ r
+unfolding freshCore
+fresh-rows r = refl
+
+pub fresh-is-whole : FreshWhole
+fresh-is-whole r e = state-tested (fresh r) (record { core = fresh-whole r e; changed = rw fresh-rows (pow-pos r) })
+
+sane-whole : (r : ℕ) (d : Screen) → Sane r d → wholeState (stateOf d) ≡ true
+sane-whole r d k = state-tested (stateOf d) (record { core = k .whole; changed = rw (k .rows) (k .few) })
+
+pub step-keeps-whole : StepWhole
+step-keeps-whole s p b e h =
+    let k = sane-step (s .core .rows) (screen s p) b (sane-screen s p e h) in
+    record { whole = sane-whole (s .core .rows) (stepped (screen s p) b) k; rows = k .rows; size = k .size ∙ sym h }
+
+pub start-returns-whole : StartWhole
+unfolding started
+start-returns-whole r p = go (sized r) refl (eqb (length p) (80 * r)) refl
+  where
+    go : (t : Bool) → sized r ≡ t → (u : Bool) → eqb (length p) (80 * r) ≡ u → wholeState (started r p .result .state) ≡ true
+    go true e true g = rw (e, g) (fresh-is-whole r e)
+    go true e false g = rw (e, g) (fresh-is-whole 24 refl)
+    go false e u g = rw e (fresh-is-whole 24 refl)
+
+pub feed-returns-whole : FeedWhole
+feed-returns-whole s p i o h =
+    let t : Taken s p = fed-taken s p i o h in
+    let n = readCount s i o in
+    rw (fed-run s p i o (t .whole) (t .size))
+    (sane-whole (s .core .rows) (ran (screen s p) (take n i)) (sane-ran (s .core .rows) (screen s p) (take n i) (sane-screen s p (t .whole) (t .size))))
+
+pub ask-returns-whole : AskWhole
+ask-returns-whole s h =
+    let e = asked-whole s h in
+    let w : WholeState s = state-facts s e in
+    rw (asked-done s e) (state-tested (record { core = s .core; changed = 0 }) (record { core = w .core; changed = pow-pos (s .core .rows) }))
+
+-- ---- S3
+
+pub replies-are-short : RepliesShort
+replies-are-short = sends-short
+
+-- ---- S4: feeding
+
+-- both sides hold, or neither does
+both : {A B : Type 0} → A → B → A ↔ B
+both a b = (λ _. b, λ _. a)
+
+neither : {A B : Type 0} → (A → ⊥) → (B → ⊥) → A ↔ B
+neither f g = (λ a. absurd (f a), λ b. absurd (g b))
+
+-- where reading stops, the next byte's reply is longer than the room left
+stops-before : (room : ℕ) (c : Core) (bs : List ℕ) → readable room c bs < length bs
+    → room - length (sent c (take (readable room c bs) bs)) < length (sends (ranCore c (take (readable room c bs) bs)) (getD bs (readable room c bs) 0))
+unfolding readable sent ranCore
+stops-before room c [] h = absurd (omega arith)
+stops-before room c (b ∷ bs) h = go (ltb room (length (sends c b))) refl h (stops-before (room - length (sends c b)) (decided c b .core) bs)
+  where
+    more : ℕ
+    more = readable (room - length (sends c b)) (decided c b .core) bs
+    go : (t : Bool) → ltb room (length (sends c b)) ≡ t → cond t 0 (suc more) < suc (length bs)
+        → (more < length bs → room - length (sends c b) - length (sent (decided c b .core) (take more bs)) < length (sends (ranCore (decided c b .core) (take more bs)) (getD bs more 0)))
+        → room - length (sent c (take (cond t 0 (suc more)) (b ∷ bs))) < length (sends (ranCore c (take (cond t 0 (suc more)) (b ∷ bs))) (getD (b ∷ bs) (cond t 0 (suc more)) 0))
+    go true e l f = let x = ltb-true room (length (sends c b)) e in omega arith
+    go false e l f = let x = f (omega arith) in rw length-append (omega arith)
+
+module _ (s : State) (p i o : List ℕ) where
+  answers-refused : (a : Answer) → fed s p i o ≡ feedRefused a s p o → number (fed s p i o .result .answer) ≡ number a
+  answers-refused a e = ap (λ (f : Feed). number (f .result .answer)) e
+
+  feed-broken : wholeState s ≡ false → FeedAnswers s p i o
+  feed-broken e =
+      let n = answers-refused Broken (fed-broken s p i o e) in
+      let not-whole : wholeState s ≡ true → ⊥ = λ w. false≢true (sym e ∙ w) in
+      record {
+        done = neither (λ z. omega arith) (λ x. not-whole (x .0));
+        broken = both n e;
+        wrong-size = neither (λ z. omega arith) (λ x. not-whole (x .0));
+        no-room = neither (λ z. omega arith) (λ x. not-whole (x .0));
+        never = λ z. omega arith }
+
+  feed-size : wholeState s ≡ true → (Sized s p → ⊥) → FeedAnswers s p i o
+  feed-size e h =
+      let n = answers-refused WrongSize (fed-size s p i o e h) in
+      record {
+        done = neither (λ z. omega arith) (λ x. h (x .1));
+        broken = neither (λ z. omega arith) (λ x. false≢true (sym x ∙ e));
+        wrong-size = both n (e, h);
+        no-room = neither (λ z. omega arith) (λ x. h (x .1));
+        never = λ z. omega arith }
+
+  module _ (e : wholeState s ≡ true) (h : Sized s p) where
+    run : fed s p i o ≡ feedFirst (fitting s i o) (readCount s i o) s p i o
+    run = fed-run s p i o e h
+
+    count : fed s p i o .result .read ≡ readCount s i o
+    count = ap (λ (f : Feed). f .result .read) run
+
+    too-long : readCount s i o < length i → NextTooLong (fed s p i o) i o
+    too-long l = rw run (record { more = l; long = rw (ran-core (screen s p) (take (readCount s i o) i)) (stops-before (length o) (s .core) i l) })
+
+    feed-runs : (t : Bool) → ltb (readCount s i o) (length i) ≡ t → FeedAnswers s p i o
+    feed-runs true g =
+        let l = ltb-true (readCount s i o) (length i) g in
+        let n : number (fed s p i o .result .answer) ≡ 3 = ap (λ (f : Feed). number (f .result .answer)) run ∙ rw g in
+        record {
+          done = neither (λ z. omega arith) (λ x. let y = x .2 in omega (arith, count));
+          broken = neither (λ z. omega arith) (λ x. false≢true (sym x ∙ e));
+          wrong-size = neither (λ z. omega arith) (λ x. x .1 h);
+          no-room = both n (e, h, too-long l);
+          never = λ z. omega arith }
+    feed-runs false g =
+        let l = ltb-false (readCount s i o) (length i) g in
+        let m = readable-most (length o) (s .core) i in
+        let n : number (fed s p i o .result .answer) ≡ 0 = ap (λ (f : Feed). number (f .result .answer)) run ∙ rw g in
+        record {
+          done = both n (e, h, omega (arith, count));
+          broken = neither (λ z. omega arith) (λ x. false≢true (sym x ∙ e));
+          wrong-size = neither (λ z. omega arith) (λ x. x .1 h);
+          no-room = neither (λ z. omega arith) (λ x. let y = x .2 .more in omega (arith, count));
+          never = λ z. omega arith }
+
+pub feed-is-exact : FeedExact
+feed-is-exact s p i o =
+    fed-cases s p i o (feed-broken s p i o) (feed-size s p i o) (λ e h. feed-runs s p i o e h (ltb (readCount s i o) (length i)) refl)
+
+pub refused-feed-leaves : FeedRefused
+refused-feed-leaves s p i o h =
+    let l = fed-left s p i o h in
+    rw (l .1) (record { read = refl; replied = refl; state = refl; page = refl; reply = refl })
+
+pub feed-does : FeedDoes
+feed-does s p i o h =
+    let t : Taken s p = fed-taken s p i o h in
+    rw (fed-run s p i o (t .whole) (t .size)) (record { state = refl; page = refl })
+
+rest-run : (s : State) (p i o : List ℕ) (a : Answer) → RestKept o (feedFirst a (readCount s i o) s p i o)
+rest-run s p i o a =
+    let out = sent (s .core) (take (readCount s i o) i) in
+    let fits : length out ≤ length o = sent-fits (length o) (s .core) i in
+    record {
+      long = length-sets o 0 out;
+      within = fits;
+      rest = ap (drop (length out)) (sets-eq out o 0 (omega arith)) ∙ drop-at out (drop (0 + length out) o) (length out) refl
+        ∙ ap (λ (n : ℕ). drop n o) (zero-add (length out)) }
+
+pub reply-rest-kept : ReplyKept
+reply-rest-kept s p i o =
+    fed-cases s p i o
+    (λ e. rw (fed-broken s p i o e) (record { long = refl; within = zero-le; rest = refl }))
+    (λ e h. rw (fed-size s p i o e h) (record { long = refl; within = zero-le; rest = refl }))
+    (λ e h. rw (fed-run s p i o e h) (rest-run s p i o (fitting s i o)))
+
+reads-one : (room : ℕ) (c : Core) (bs : List ℕ) → 1 ≤ length bs → 11 ≤ room → 1 ≤ readable room c bs
+reads-one room c [] l h = absurd (omega arith)
+reads-one room c (b ∷ bs) l h =
+    let short = sends-short c b in
+    rw (readable-fits room c b bs (omega arith)) (suc-le-suc zero-le)
+
+pub progress : Progress
+progress s p i o e h l room = rw (fed-run s p i o e h) (reads-one (length o) (s .core) i l room)
+
+-- ---- S4: starting, asking, reading
+
+pub start-is-exact : StartExact
+start-is-exact r p = go (sized r) refl (eqb (length p) (80 * r)) refl
+  where
+    go : (t : Bool) → sized r ≡ t → (u : Bool) → eqb (length p) (80 * r) ≡ u → StartAnswers r p
+    go true e true g =
+        let l = eqb-true (length p) (80 * r) g in
+        let q = started-as r p Done (rw (e, g)) in
+        let n : number (started r p .result .answer) ≡ 0 = ap (λ (x : Start). number (x .result .answer)) q in
+        record {
+          broken = neither (λ z. omega arith) (λ x. false≢true (sym x ∙ e));
+          wrong-size = neither (λ z. omega arith) (λ x. x .1 l);
+          done = both n (e, l);
+          refused = λ x. absurd (false≢true (ap (λ (y : Start). refusal (y .result .answer)) (sym q) ∙ x));
+          begun = λ x. (ap (λ (y : Start). y .result .state) q, ap (λ (y : Start). y .page) q) }
+    go true e false g =
+        let l = eqb-false (length p) (80 * r) g in
+        let q = started-as r p WrongSize (rw (e, g)) in
+        let n : number (started r p .result .answer) ≡ 2 = ap (λ (x : Start). number (x .result .answer)) q in
+        record {
+          broken = neither (λ z. omega arith) (λ x. false≢true (sym x ∙ e));
+          wrong-size = both n (e, l);
+          done = neither (λ z. omega arith) (λ x. l (x .1));
+          refused = λ x. (ap (λ (y : Start). y .result .state) q, ap (λ (y : Start). y .page) q);
+          begun = λ x. absurd (false≢true (sym x ∙ ap (λ (y : Start). refusal (y .result .answer)) q)) }
+    go false e u g =
+        let q = started-as r p Broken (rw e) in
+        let n : number (started r p .result .answer) ≡ 1 = ap (λ (x : Start). number (x .result .answer)) q in
+        record {
+          broken = both n e;
+          wrong-size = neither (λ z. omega arith) (λ x. false≢true (sym e ∙ x .0));
+          done = neither (λ z. omega arith) (λ x. false≢true (sym e ∙ x .0));
+          refused = λ x. (ap (λ (y : Start). y .result .state) q, ap (λ (y : Start). y .page) q);
+          begun = λ x. absurd (false≢true (sym x ∙ ap (λ (y : Start). refusal (y .result .answer)) q)) }
+
+pub ask-is-exact : AskExact
+ask-is-exact s = go (wholeState s) refl
+  where
+    go : (t : Bool) → wholeState s ≡ t → AskAnswers s
+    go true e =
+        let q = asked-done s e in
+        let n : number (asked s .answer) ≡ 0 = ap (λ (x : Asked). number (x .answer)) q in
+        record {
+          broken = neither (λ z. omega arith) (λ x. false≢true (sym x ∙ e));
+          done = both n e;
+          refused = λ x. absurd (false≢true (ap (λ (y : Asked). refusal (y .answer)) (sym q) ∙ x)) }
+    go false e =
+        let q = asked-broken s e in
+        let n : number (asked s .answer) ≡ 1 = ap (λ (x : Asked). number (x .answer)) q in
+        record {
+          broken = both n e;
+          done = neither (λ z. omega arith) (λ x. false≢true (sym e ∙ x));
+          refused = λ x. (ap (λ (y : Asked). y .rows) q, ap (λ (y : Asked). y .count) q, ap (λ (y : Asked). y .state) q) }
+
+pub read-is-exact : ReadExact
+read-is-exact s p r c = go (wholeState s) refl (eqb (length p) (80 * s .core .rows)) refl (onPage (s .core .rows) r c) refl
+  where
+    go : (t : Bool) → wholeState s ≡ t → (u : Bool) → eqb (length p) (80 * s .core .rows) ≡ u → (v : Bool) → onPage (s .core .rows) r c ≡ v → ReadAnswers s p r c
+    go true e true g true k =
+        let l = eqb-true (length p) (80 * s .core .rows) g in
+        let q = read-as s p r c Done (rw (e, g, k)) in
+        let n : number (cellRead s p r c .answer) ≡ 0 = ap (λ (x : CellRead). number (x .answer)) q in
+        record {
+          broken = neither (λ z. omega arith) (λ x. false≢true (sym x ∙ e));
+          wrong-size = neither (λ z. omega arith) (λ x. x .1 l);
+          off-page = neither (λ z. omega arith) (λ x. false≢true (sym (x .2) ∙ k));
+          done = both n (e, l, k);
+          refused = λ x. absurd (false≢true (ap (λ (y : CellRead). refusal (y .answer)) (sym q) ∙ x));
+          word = λ x. ap (λ (y : CellRead). y .word) q }
+    go true e true g false k =
+        let l = eqb-true (length p) (80 * s .core .rows) g in
+        let q = read-as s p r c OffPage (rw (e, g, k)) in
+        let n : number (cellRead s p r c .answer) ≡ 4 = ap (λ (x : CellRead). number (x .answer)) q in
+        record {
+          broken = neither (λ z. omega arith) (λ x. false≢true (sym x ∙ e));
+          wrong-size = neither (λ z. omega arith) (λ x. x .1 l);
+          off-page = both n (e, l, k);
+          done = neither (λ z. omega arith) (λ x. false≢true (sym k ∙ x .2));
+          refused = λ x. ap (λ (y : CellRead). y .word) q;
+          word = λ x. absurd (false≢true (sym x ∙ ap (λ (y : CellRead). refusal (y .answer)) q)) }
+    go true e false g v k =
+        let l = eqb-false (length p) (80 * s .core .rows) g in
+        let q = read-as s p r c WrongSize (rw (e, g)) in
+        let n : number (cellRead s p r c .answer) ≡ 2 = ap (λ (x : CellRead). number (x .answer)) q in
+        record {
+          broken = neither (λ z. omega arith) (λ x. false≢true (sym x ∙ e));
+          wrong-size = both n (e, l);
+          off-page = neither (λ z. omega arith) (λ x. l (x .1));
+          done = neither (λ z. omega arith) (λ x. l (x .1));
+          refused = λ x. ap (λ (y : CellRead). y .word) q;
+          word = λ x. absurd (false≢true (sym x ∙ ap (λ (y : CellRead). refusal (y .answer)) q)) }
+    go false e u g v k =
+        let q = read-as s p r c Broken (rw e) in
+        let n : number (cellRead s p r c .answer) ≡ 1 = ap (λ (x : CellRead). number (x .answer)) q in
+        record {
+          broken = both n e;
+          wrong-size = neither (λ z. omega arith) (λ x. false≢true (sym e ∙ x .0));
+          off-page = neither (λ z. omega arith) (λ x. false≢true (sym e ∙ x .0));
+          done = neither (λ z. omega arith) (λ x. false≢true (sym e ∙ x .0));
+          refused = λ x. ap (λ (y : CellRead). y .word) q;
+          word = λ x. absurd (false≢true (sym x ∙ ap (λ (y : CellRead). refusal (y .answer)) q)) }
+
+-- ---- S8
+
+pub edits-are-faithful : EveryEdit
+edits-are-faithful n e p h w =
+    let f = every-edit n e p h w in
+    record { long = f .long; outside = f .kept; reported = f .reported; differing = f .differing }

@@ -1,0 +1,220 @@
+-- What is proved of the definitions, a sentence above each statement. proofs/ has, for each, a theorem of the type stated here.
+-- The promises of the calls are equations with `started`, `fed`, `asked` and `cellRead`, so what is proved of these holds of the calls.
+use mathlib.Core.Path.{_≡_}
+use mathlib.Core.Bool.{Bool, true, false, cond, _&&_}
+use mathlib.Core.List.{List, [], _∷_, _++_}
+use mathlib.Core.Logic.{_↔_}
+use Prim.Native.Nat.{ℕ, _+_, _-_, _*_, _≤_, _<_}
+use lib.ListN.{length, getD, take, drop}
+use Rattle.cells.specs.declared.Edit.{Edit}
+use Rattle.cells.specs.Cells.{blank}
+use Rattle.cells.specs.Sets.{changed}
+use Rattle.cells.specs.Edits.{applied, target, Within}
+use Rattle.vt.specs.declared.core.Core.{Core}
+use Rattle.vt.specs.Whole.{sized}
+use Rattle.vt.specs.Replies.{longestReply}
+use Rattle.vt.specs.Decide.{sends}
+use Rattle.terminal.specs.declared.State.{State}
+use Rattle.terminal.specs.declared.Answer.{Answer}
+use Rattle.terminal.specs.declared.Answer.the-variants.{Done}
+use Rattle.terminal.specs.Answers.{number, refusal}
+use Rattle.terminal.specs.Steps.{Screen, stepped, ran}
+use Rattle.terminal.specs.Whole.{wholeState}
+use Rattle.terminal.specs.Start.{fresh, blankPage, started}
+use Rattle.terminal.specs.Feed.{Feed, screen, fed}
+use Rattle.terminal.specs.Ask.{asked}
+use Rattle.terminal.specs.Read.{onPage, cellAt, cellRead}
+use Rattle.demands.specs.Model as M
+use Rattle.demands.specs.World as W
+
+-- a page of the size that a state asks for
+abbrev pub Sized : State → List ℕ → Type 0
+Sized s p = length p ≡ 80 * s .core .rows
+
+-- the state of a screen
+abbrev pub stateOf : Screen → State
+stateOf d = record { core = d .core; changed = d .changed }
+
+-- ==== S2. States stay whole.
+
+-- The fresh state of each of the three sizes is whole.
+abbrev pub FreshWhole : Type 0
+FreshWhole = (r : ℕ) → sized r ≡ true → wholeState (fresh r) ≡ true
+
+-- Every byte's step keeps a whole state whole, with as many rows, and keeps the page's length.
+pub record KeptWhole (s : State) (p : List ℕ) (b : ℕ) : Type 0 where
+  pub whole : wholeState (stateOf (stepped (screen s p) b)) ≡ true
+  pub rows : stepped (screen s p) b .core .rows ≡ s .core .rows
+  pub size : length (stepped (screen s p) b .page) ≡ length p
+
+abbrev pub StepWhole : Type 0
+StepWhole = (s : State) (p : List ℕ) (b : ℕ) → wholeState s ≡ true → Sized s p → KeptWhole s p b
+
+-- The state that a start returns, refused or not, is whole; so is the one that an unrefused feeding or asking returns.
+abbrev pub StartWhole : Type 0
+StartWhole = (r : ℕ) (p : List ℕ) → wholeState (started r p .result .state) ≡ true
+
+abbrev pub FeedWhole : Type 0
+FeedWhole = (s : State) (p i o : List ℕ) → refusal (fed s p i o .result .answer) ≡ false → wholeState (fed s p i o .result .state) ≡ true
+
+abbrev pub AskWhole : Type 0
+AskWhole = (s : State) → refusal (asked s .answer) ≡ false → wholeState (asked s .state) ≡ true
+
+-- ==== S3. No byte sends more than the longest reply, 11 bytes.
+
+abbrev pub RepliesShort : Type 0
+RepliesShort = (c : Core) (b : ℕ) → length (sends c b) ≤ longestReply
+
+-- ==== S4, demand 1. Any bytes are taken without harm.
+
+-- The next byte's reply is longer than the room left.
+pub record NextTooLong (f : Feed) (i o : List ℕ) : Type 0 where
+  pub more : f .result .read < length i
+  pub long : length o - f .result .replied < length (sends (f .result .state .core) (getD i (f .result .read) 0))
+
+-- A feeding's answers are given exactly when document 01 says, 1 before 2.
+pub record FeedAnswers (s : State) (p i o : List ℕ) : Type 0 where
+  pub done : number (fed s p i o .result .answer) ≡ 0 ↔ ((wholeState s ≡ true) × Sized s p × (fed s p i o .result .read ≡ length i))
+  pub broken : number (fed s p i o .result .answer) ≡ 1 ↔ (wholeState s ≡ false)
+  pub wrong-size : number (fed s p i o .result .answer) ≡ 2 ↔ ((wholeState s ≡ true) × (Sized s p → ⊥))
+  pub no-room : number (fed s p i o .result .answer) ≡ 3 ↔ ((wholeState s ≡ true) × Sized s p × NextTooLong (fed s p i o) i o)
+  pub never : number (fed s p i o .result .answer) ≡ 4 → ⊥
+
+abbrev pub FeedExact : Type 0
+FeedExact = (s : State) (p i o : List ℕ) → FeedAnswers s p i o
+
+-- A refused feeding reads nothing, sends nothing, and leaves page, reply buffer and state as they came.
+pub record Untouched (s : State) (p o : List ℕ) (f : Feed) : Type 0 where
+  pub read : f .result .read ≡ 0
+  pub replied : f .result .replied ≡ 0
+  pub state : f .result .state ≡ s
+  pub page : f .page ≡ p
+  pub reply : f .reply ≡ o
+
+abbrev pub FeedRefused : Type 0
+FeedRefused = (s : State) (p i o : List ℕ) → refusal (fed s p i o .result .answer) ≡ true → Untouched s p o (fed s p i o)
+
+-- An unrefused one has done exactly the bytes that it says it read: what came before the byte that it stopped at, and nothing of that byte.
+pub record DoneUpTo (s : State) (p i : List ℕ) (f : Feed) : Type 0 where
+  pub state : f .result .state ≡ stateOf (ran (screen s p) (take (f .result .read) i))
+  pub page : f .page ≡ ran (screen s p) (take (f .result .read) i) .page
+
+abbrev pub FeedDoes : Type 0
+FeedDoes = (s : State) (p i o : List ℕ) → refusal (fed s p i o .result .answer) ≡ false → DoneUpTo s p i (fed s p i o)
+
+-- The reply buffer keeps its length, and its bytes past the reply length are unchanged.
+pub record RestKept (o : List ℕ) (f : Feed) : Type 0 where
+  pub long : length (f .reply) ≡ length o
+  pub within : f .result .replied ≤ length o
+  pub rest : drop (f .result .replied) (f .reply) ≡ drop (f .result .replied) o
+
+abbrev pub ReplyKept : Type 0
+ReplyKept = (s : State) (p i o : List ℕ) → RestKept o (fed s p i o)
+
+-- With room for the longest reply, given input, a whole state and a page of the right length, at least one byte is read.
+abbrev pub Progress : Type 0
+Progress = (s : State) (p i o : List ℕ) → wholeState s ≡ true → Sized s p → 1 ≤ length i → longestReply ≤ length o → 1 ≤ fed s p i o .result .read
+
+-- Starting answers 1 exactly for another R than 24, 36 and 48, then 2 exactly for another length; refused, it returns the fresh 24-row state
+-- and leaves the page; done, the state is fresh and every cell blank.
+pub record StartAnswers (r : ℕ) (p : List ℕ) : Type 0 where
+  pub broken : number (started r p .result .answer) ≡ 1 ↔ (sized r ≡ false)
+  pub wrong-size : number (started r p .result .answer) ≡ 2 ↔ ((sized r ≡ true) × (length p ≡ 80 * r → ⊥))
+  pub done : number (started r p .result .answer) ≡ 0 ↔ ((sized r ≡ true) × (length p ≡ 80 * r))
+  pub refused : refusal (started r p .result .answer) ≡ true → (started r p .result .state ≡ fresh 24) × (started r p .page ≡ p)
+  pub begun : refusal (started r p .result .answer) ≡ false → (started r p .result .state ≡ fresh r) × (started r p .page ≡ blankPage r)
+
+abbrev pub StartExact : Type 0
+StartExact = (r : ℕ) (p : List ℕ) → StartAnswers r p
+
+-- Asking answers 1 exactly for a state that is not whole, and then returns the empty set, 0, and the state as it came.
+pub record AskAnswers (s : State) : Type 0 where
+  pub broken : number (asked s .answer) ≡ 1 ↔ (wholeState s ≡ false)
+  pub done : number (asked s .answer) ≡ 0 ↔ (wholeState s ≡ true)
+  pub refused : refusal (asked s .answer) ≡ true → (asked s .rows ≡ 0) × (asked s .count ≡ 0) × (asked s .state ≡ s)
+
+abbrev pub AskExact : Type 0
+AskExact = (s : State) → AskAnswers s
+
+-- Reading a cell answers 1 before 2 before 4, each exactly when document 01 says; refused, it returns a blank cell.
+pub record ReadAnswers (s : State) (p : List ℕ) (r c : ℕ) : Type 0 where
+  pub broken : number (cellRead s p r c .answer) ≡ 1 ↔ (wholeState s ≡ false)
+  pub wrong-size : number (cellRead s p r c .answer) ≡ 2 ↔ ((wholeState s ≡ true) × (Sized s p → ⊥))
+  pub off-page : number (cellRead s p r c .answer) ≡ 4 ↔ ((wholeState s ≡ true) × Sized s p × (onPage (s .core .rows) r c ≡ false))
+  pub done : number (cellRead s p r c .answer) ≡ 0 ↔ ((wholeState s ≡ true) × Sized s p × (onPage (s .core .rows) r c ≡ true))
+  pub refused : refusal (cellRead s p r c .answer) ≡ true → cellRead s p r c .word ≡ blank
+  pub word : refusal (cellRead s p r c .answer) ≡ false → cellRead s p r c .word ≡ cellAt p r c
+
+abbrev pub ReadExact : Type 0
+ReadExact = (s : State) (p : List ℕ) (r c : ℕ) → ReadAnswers s p r c
+
+-- ==== S5, demand 2. Feeding the same bytes in several calls changes nothing, if each call's replies fit.
+
+-- A part of the input, and the reply buffer that its call is lent.
+pub record Part : Type 0 where
+  pub input : List ℕ
+  pub reply : List ℕ
+
+-- The bytes that a feeding sent.
+abbrev pub sentBy : Feed → List ℕ
+sentBy f = take (f .result .replied) (f .reply)
+
+-- Calls one after the other, each given what the one before it left.
+pub record Several : Type 0 where
+  pub state : State
+  pub page : List ℕ
+  pub sent : List ℕ
+
+abbrev pub several : State → List ℕ → List Part → Several
+several s p [] = record { state = s; page = p; sent = [] }
+several s p (x ∷ xs) =
+    let f = fed s p (x .input) (x .reply) in
+    let g = several (f .result .state) (f .page) xs in
+    record { state = g .state; page = g .page; sent = sentBy f ++ g .sent }
+
+-- Each is answered 0.
+abbrev pub AllDone : State → List ℕ → List Part → Type 0
+AllDone s p [] = Unit {0}
+AllDone s p (x ∷ xs) =
+    let f = fed s p (x .input) (x .reply) in
+    (number (f .result .answer) ≡ 0) × AllDone (f .result .state) (f .page) xs
+
+abbrev pub inputOf : List Part → List ℕ
+inputOf [] = []
+inputOf (x ∷ xs) = x .input ++ inputOf xs
+
+-- All at once, with room for what the several calls sent: answer 0, and the same page, the same state with the same changed rows, and the
+-- same replies in a row.
+pub record SameAtOnce (g : Several) (f : Feed) : Type 0 where
+  pub answer : number (f .result .answer) ≡ 0
+  pub page : f .page ≡ g .page
+  pub state : f .result .state ≡ g .state
+  pub sent : sentBy f ≡ g .sent
+
+abbrev pub Demand2 : Type 0
+Demand2 = (s : State) (p : List ℕ) (xs : List Part) (o : List ℕ) → wholeState s ≡ true → Sized s p → AllDone s p xs
+    → length (several s p xs .sent) ≤ length o → SameAtOnce (several s p xs) (fed s p (inputOf xs) o)
+
+-- ==== S8. Every edit keeps the page's length and each cell outside its target, and the rows that it changes are exactly those where a
+-- cell's word differs.
+
+pub record Edited (n : ℕ) (e : Edit) (p q : List ℕ) : Type 0 where
+  pub long : length q ≡ length p
+  pub outside : (k c : ℕ) → k < n → c < 80 → target e k c ≡ false → getD q (80 * k + c) 0 ≡ getD p (80 * k + c) 0
+  pub reported : (k : ℕ) → k < n → changed p q k ≡ true → (c : ℕ) × (c < 80) × (getD p (80 * k + c) 0 ≡ getD q (80 * k + c) 0 → ⊥)
+  pub differing : (k c : ℕ) → k < n → c < 80 → (getD p (80 * k + c) 0 ≡ getD q (80 * k + c) 0 → ⊥) → changed p q k ≡ true
+
+abbrev pub EveryEdit : Type 0
+EveryEdit = (n : ℕ) (e : Edit) (p : List ℕ) → length p ≡ 80 * n → Within n e → Edited n e p (applied n e p)
+
+-- ==== S6, demand 3. A page of R rows was started. For every list of calls of which each unrefused one was given the newest state and her
+-- page, and a refused one anything: her page is the model's, and what is seen of the calls is what the model shows: answers, counts and bytes
+-- sent of feedings, the rows reported, their number and the reader's copy at each asking, the words read.
+
+pub record Agrees (w : W.World) (m : M.Model) (xs : List W.Item) : Type 0 where
+  pub page : W.endsAt w xs .page ≡ M.ends m (W.toldAll w xs) .page
+  pub seen : W.seenAll w xs ≡ M.showsAll m (W.toldAll w xs)
+
+abbrev pub Demand3 : Type 0
+Demand3 = (r : ℕ) (p : List ℕ) → number (started r p .result .answer) ≡ 0 → (xs : List W.Item) → W.Proper (W.opened r p) xs
+    → Agrees (W.opened r p) (M.begun r) xs
