@@ -96,6 +96,7 @@ stops-before room c (b ∷ bs) h = go (ltb room (length (sends c b))) refl h (st
   where
     more : ℕ
     more = readable (room - length (sends c b)) (decided c b .core) bs
+
     go : (t : Bool) → ltb room (length (sends c b)) ≡ t → cond t 0 (suc more) < suc (length bs)
         → (more < length bs → room - length (sends c b) - length (sent (decided c b .core) (take more bs)) < length (sends (ranCore (decided c b .core) (take more bs)) (getD bs more 0)))
         → room - length (sent c (take (cond t 0 (suc more)) (b ∷ bs))) < length (sends (ranCore c (take (cond t 0 (suc more)) (b ∷ bs))) (getD (b ∷ bs) (cond t 0 (suc more)) 0))
@@ -115,7 +116,8 @@ module _ (s : State) (p i o : List ℕ) where
         broken = both n e;
         wrong-size = neither (λ z. omega arith) (λ x. not-whole (x .0));
         no-room = neither (λ z. omega arith) (λ x. not-whole (x .0));
-        never = λ z. omega arith }
+        never = λ z. omega arith;
+      }
 
   feed-size : wholeState s ≡ true → (Sized s p → ⊥) → FeedAnswers s p i o
   feed-size e h =
@@ -125,7 +127,8 @@ module _ (s : State) (p i o : List ℕ) where
         broken = neither (λ z. omega arith) (λ x. false≢true (sym x ∙ e));
         wrong-size = both n (e, h);
         no-room = neither (λ z. omega arith) (λ x. h (x .1));
-        never = λ z. omega arith }
+        never = λ z. omega arith;
+      }
 
   module _ (e : wholeState s ≡ true) (h : Sized s p) where
     run : fed s p i o ≡ feedFirst (fitting s i o) (readCount s i o) s p i o
@@ -146,7 +149,8 @@ module _ (s : State) (p i o : List ℕ) where
           broken = neither (λ z. omega arith) (λ x. false≢true (sym x ∙ e));
           wrong-size = neither (λ z. omega arith) (λ x. x .1 h);
           no-room = both n (e, h, too-long l);
-          never = λ z. omega arith }
+          never = λ z. omega arith;
+        }
     feed-runs false g =
         let l = ltb-false (readCount s i o) (length i) g in
         let m = readable-most (length o) (s .core) i in
@@ -156,7 +160,8 @@ module _ (s : State) (p i o : List ℕ) where
           broken = neither (λ z. omega arith) (λ x. false≢true (sym x ∙ e));
           wrong-size = neither (λ z. omega arith) (λ x. x .1 h);
           no-room = neither (λ z. omega arith) (λ x. let y = x .2 .more in omega (arith, count));
-          never = λ z. omega arith }
+          never = λ z. omega arith;
+        }
 
 pub feed-is-exact : FeedExact
 feed-is-exact s p i o =
@@ -165,7 +170,7 @@ feed-is-exact s p i o =
 pub refused-feed-leaves : FeedRefused
 refused-feed-leaves s p i o h =
     let l = fed-left s p i o h in
-    rw (l .1) (record { read = refl; replied = refl; state = refl; page = refl; reply = refl })
+    record { read = l .read; replied = l .replied; state = l .state; page = l .page; reply = l .reply }
 
 pub feed-does : FeedDoes
 feed-does s p i o h =
@@ -180,7 +185,8 @@ rest-run s p i o a =
       long = length-sets o 0 out;
       within = fits;
       rest = ap (drop (length out)) (sets-eq out o 0 (omega arith)) ∙ drop-at out (drop (0 + length out) o) (length out) refl
-        ∙ ap (λ (n : ℕ). drop n o) (zero-add (length out)) }
+          ∙ ap (λ (n : ℕ). drop n o) (zero-add (length out));
+    }
 
 pub reply-rest-kept : ReplyKept
 reply-rest-kept s p i o =
@@ -213,7 +219,8 @@ start-is-exact r p = go (sized r) refl (eqb (length p) (80 * r)) refl
           wrong-size = neither (λ z. omega arith) (λ x. x .1 l);
           done = both n (e, l);
           refused = λ x. absurd (false≢true (ap (λ (y : Start). refusal (y .result .answer)) (sym q) ∙ x));
-          begun = λ x. (ap (λ (y : Start). y .result .state) q, ap (λ (y : Start). y .page) q) }
+          begun = λ x. (ap (λ (y : Start). y .result .state) q, ap (λ (y : Start). y .page) q);
+        }
     go true e false g =
         let l = eqb-false (length p) (80 * r) g in
         let q = started-as r p WrongSize (rw (e, g)) in
@@ -223,7 +230,8 @@ start-is-exact r p = go (sized r) refl (eqb (length p) (80 * r)) refl
           wrong-size = both n (e, l);
           done = neither (λ z. omega arith) (λ x. l (x .1));
           refused = λ x. (ap (λ (y : Start). y .result .state) q, ap (λ (y : Start). y .page) q);
-          begun = λ x. absurd (false≢true (sym x ∙ ap (λ (y : Start). refusal (y .result .answer)) q)) }
+          begun = λ x. absurd (false≢true (sym x ∙ ap (λ (y : Start). refusal (y .result .answer)) q));
+        }
     go false e u g =
         let q = started-as r p Broken (rw e) in
         let n : number (started r p .result .answer) ≡ 1 = ap (λ (x : Start). number (x .result .answer)) q in
@@ -232,7 +240,8 @@ start-is-exact r p = go (sized r) refl (eqb (length p) (80 * r)) refl
           wrong-size = neither (λ z. omega arith) (λ x. false≢true (sym e ∙ x .0));
           done = neither (λ z. omega arith) (λ x. false≢true (sym e ∙ x .0));
           refused = λ x. (ap (λ (y : Start). y .result .state) q, ap (λ (y : Start). y .page) q);
-          begun = λ x. absurd (false≢true (sym x ∙ ap (λ (y : Start). refusal (y .result .answer)) q)) }
+          begun = λ x. absurd (false≢true (sym x ∙ ap (λ (y : Start). refusal (y .result .answer)) q));
+        }
 
 pub ask-is-exact : AskExact
 ask-is-exact s = go (wholeState s) refl
@@ -244,14 +253,16 @@ ask-is-exact s = go (wholeState s) refl
         record {
           broken = neither (λ z. omega arith) (λ x. false≢true (sym x ∙ e));
           done = both n e;
-          refused = λ x. absurd (false≢true (ap (λ (y : Asked). refusal (y .answer)) (sym q) ∙ x)) }
+          refused = λ x. absurd (false≢true (ap (λ (y : Asked). refusal (y .answer)) (sym q) ∙ x));
+        }
     go false e =
         let q = asked-broken s e in
         let n : number (asked s .answer) ≡ 1 = ap (λ (x : Asked). number (x .answer)) q in
         record {
           broken = both n e;
           done = neither (λ z. omega arith) (λ x. false≢true (sym e ∙ x));
-          refused = λ x. (ap (λ (y : Asked). y .rows) q, ap (λ (y : Asked). y .count) q, ap (λ (y : Asked). y .state) q) }
+          refused = λ x. (ap (λ (y : Asked). y .rows) q, ap (λ (y : Asked). y .count) q, ap (λ (y : Asked). y .state) q);
+        }
 
 pub read-is-exact : ReadExact
 read-is-exact s p r c = go (wholeState s) refl (eqb (length p) (80 * s .core .rows)) refl (onPage (s .core .rows) r c) refl
@@ -267,7 +278,8 @@ read-is-exact s p r c = go (wholeState s) refl (eqb (length p) (80 * s .core .ro
           off-page = neither (λ z. omega arith) (λ x. false≢true (sym (x .2) ∙ k));
           done = both n (e, l, k);
           refused = λ x. absurd (false≢true (ap (λ (y : CellRead). refusal (y .answer)) (sym q) ∙ x));
-          word = λ x. ap (λ (y : CellRead). y .word) q }
+          word = λ x. ap (λ (y : CellRead). y .word) q;
+        }
     go true e true g false k =
         let l = eqb-true (length p) (80 * s .core .rows) g in
         let q = read-as s p r c OffPage (rw (e, g, k)) in
@@ -278,7 +290,8 @@ read-is-exact s p r c = go (wholeState s) refl (eqb (length p) (80 * s .core .ro
           off-page = both n (e, l, k);
           done = neither (λ z. omega arith) (λ x. false≢true (sym k ∙ x .2));
           refused = λ x. ap (λ (y : CellRead). y .word) q;
-          word = λ x. absurd (false≢true (sym x ∙ ap (λ (y : CellRead). refusal (y .answer)) q)) }
+          word = λ x. absurd (false≢true (sym x ∙ ap (λ (y : CellRead). refusal (y .answer)) q));
+        }
     go true e false g v k =
         let l = eqb-false (length p) (80 * s .core .rows) g in
         let q = read-as s p r c WrongSize (rw (e, g)) in
@@ -289,7 +302,8 @@ read-is-exact s p r c = go (wholeState s) refl (eqb (length p) (80 * s .core .ro
           off-page = neither (λ z. omega arith) (λ x. l (x .1));
           done = neither (λ z. omega arith) (λ x. l (x .1));
           refused = λ x. ap (λ (y : CellRead). y .word) q;
-          word = λ x. absurd (false≢true (sym x ∙ ap (λ (y : CellRead). refusal (y .answer)) q)) }
+          word = λ x. absurd (false≢true (sym x ∙ ap (λ (y : CellRead). refusal (y .answer)) q));
+        }
     go false e u g v k =
         let q = read-as s p r c Broken (rw e) in
         let n : number (cellRead s p r c .answer) ≡ 1 = ap (λ (x : CellRead). number (x .answer)) q in
@@ -299,7 +313,8 @@ read-is-exact s p r c = go (wholeState s) refl (eqb (length p) (80 * s .core .ro
           off-page = neither (λ z. omega arith) (λ x. false≢true (sym e ∙ x .0));
           done = neither (λ z. omega arith) (λ x. false≢true (sym e ∙ x .0));
           refused = λ x. ap (λ (y : CellRead). y .word) q;
-          word = λ x. absurd (false≢true (sym x ∙ ap (λ (y : CellRead). refusal (y .answer)) q)) }
+          word = λ x. absurd (false≢true (sym x ∙ ap (λ (y : CellRead). refusal (y .answer)) q));
+        }
 
 -- ---- S8
 

@@ -42,7 +42,8 @@ read-all s p i o h =
     record {
       page = ap (λ (f : Feed). f .page) run ∙ ap (λ (l : List ℕ). ran (screen s p) l .page) all;
       state = ap (λ (f : Feed). f .result .state) run ∙ ap (λ (l : List ℕ). stateOf (ran (screen s p) l)) all;
-      bytes = ap sentBy run ∙ front out o fits ∙ ap (sent (s .core)) all }
+      bytes = ap sentBy run ∙ front out o fits ∙ ap (sent (s .core)) all;
+    }
 
 -- ---- several calls
 
@@ -61,12 +62,13 @@ run-of s p (x ∷ xs) h =
     let b = run-of (f .result .state) (f .page) xs (h .1) in
     let mid : screen (f .result .state) (f .page) ≡ ran (screen s p) (x .input) = ap₂ screen (a .state) (a .page) in
     let whole : ran (screen (f .result .state) (f .page)) (inputOf xs) ≡ ran (screen s p) (x .input ++ inputOf xs) =
-        ap (λ (d : Screen). ran d (inputOf xs)) mid ∙ sym (ran-append (screen s p) (x .input) (inputOf xs)) in
+    ap (λ (d : Screen). ran d (inputOf xs)) mid ∙ sym (ran-append (screen s p) (x .input) (inputOf xs)) in
     let core : f .result .state .core ≡ ranCore (s .core) (x .input) = ap (λ (t : State). t .core) (a .state) ∙ ran-core (screen s p) (x .input) in
     record {
       page = b .page ∙ ap (λ (d : Screen). d .page) whole;
       state = b .state ∙ ap stateOf whole;
-      bytes = ap₂ (λ (u v : List ℕ). u ++ v) (a .bytes) (b .bytes ∙ ap (λ (c : Core). sent c (inputOf xs)) core) ∙ sym (sent-append (s .core) (x .input) (inputOf xs)) }
+      bytes = ap₂ (λ (u v : List ℕ). u ++ v) (a .bytes) (b .bytes ∙ ap (λ (c : Core). sent c (inputOf xs)) core) ∙ sym (sent-append (s .core) (x .input) (inputOf xs));
+    }
 
 pub demand-2 : Demand2
 demand-2 s p xs o e h done room =
@@ -75,6 +77,6 @@ demand-2 s p xs o e h done room =
     let fits : length (sent (s .core) i) ≤ length o = subst (λ (l : List ℕ). length l ≤ length o) (g .bytes) room in
     let n : readCount s i o ≡ length i = reads-all (length o) (s .core) i fits in
     let answered : number (fed s p i o .result .answer) ≡ 0 =
-        ap (λ (f : Feed). number (f .result .answer)) (fed-run s p i o e h) ∙ ap (λ (t : Bool). number (cond t NoRoom Done)) (le-ltb (readCount s i o) (length i) (omega arith)) in
+    ap (λ (f : Feed). number (f .result .answer)) (fed-run s p i o e h) ∙ ap (λ (t : Bool). number (cond t NoRoom Done)) (le-ltb (readCount s i o) (length i) (omega arith)) in
     let a = read-all s p i o answered in
     record { answer = answered; page = a .page ∙ sym (g .page); state = a .state ∙ sym (g .state); sent = a .bytes ∙ sym (g .bytes) }

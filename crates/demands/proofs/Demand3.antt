@@ -99,9 +99,9 @@ byte-screen r m copy b K =
     let z = sizes r m copy b K in
     let start : Marked = record { page = m .page; changed = bitsOf n (m .rows) } in
     let one : edited n (x .first) start ≡ record { page = p; changed = bitsOf n (joins (m .rows) (m .page) p) } =
-        step-joins n (x .first) (m .page) (m .rows) (z .before) (z .first) in
+    step-joins n (x .first) (m .page) (m .rows) (z .before) (z .first) in
     let two : edited n (x .second) (edited n (x .first) start) ≡ record { page = q; changed = bitsOf n (joins (joins (m .rows) (m .page) p) p q) } =
-        ap (edited n (x .second)) one ∙ step-joins n (x .second) p (joins (m .rows) (m .page) p) (z .between) (z .second) in
+    ap (edited n (x .second)) one ∙ step-joins n (x .second) p (joins (m .rows) (m .page) p) (z .between) (z .second) in
     ap (λ (i : ℕ). let d = edited n (x .second) (edited n (x .first) (record { page = m .page; changed = bitsOf i (m .rows) })) in record { core = x .core; page = d .page; changed = d .changed }) (sym (K .rows))
     ∙ ap (λ (d : Marked). record { core = x .core; page = d .page; changed = d .changed }) two
     ∙ ap (λ (i : ℕ). record { core = x .core; page = q; changed = bitsOf i (joins (joins (m .rows) (m .page) p) p q) }) (K .rows)
@@ -126,7 +126,8 @@ kept-byte r m copy b K =
       whole = s .whole;
       size = z .after ∙ up;
       right = kept-step r (joins (m .rows) (m .page) p) copy p q (z .between ∙ up) (z .after ∙ up)
-        (kept-step r (m .rows) copy (m .page) p (K .size) (z .between ∙ up) (K .right)) }
+          (kept-step r (m .rows) copy (m .page) p (K .size) (z .between ∙ up) (K .right));
+    }
 
 bytes-screen : (r : ℕ) (m : Model) (copy : List ℕ) (bs : List ℕ) → Kept r m copy → ran (screenOf r m) bs ≡ screenOf r (bytes m bs)
 unfolding ran bytes
@@ -165,7 +166,7 @@ module _ (r : ℕ) (m : Model) (copy : List ℕ) (K : Kept r m copy) where
 
   feeding-matches : (i o : List ℕ) → refusal (W.answerTo (worldOf r m copy) own hers (feeding i o)) ≡ false
       → Matches r (W.worldAfter (worldOf r m copy) own hers (feeding i o)) (M.after m (feeding i o))
-          (W.seenOf (worldOf r m copy) own hers (feeding i o)) (M.shows m (feeding i o))
+      (W.seenOf (worldOf r m copy) own hers (feeding i o)) (M.shows m (feeding i o))
   feeding-matches i o h =
       let t : Taken own (m .page) = fed-taken own (m .page) i o h in
       let run = fed-run own (m .page) i o (t .whole) (t .size) in
@@ -175,8 +176,10 @@ module _ (r : ℕ) (m : Model) (copy : List ℕ) (K : Kept r m copy) where
         related = record {
           copy = copy;
           is = rw (h, run, bytes-screen r m copy (M.taken m i o) K);
-          kept = kept-bytes r m copy (M.taken m i o) K };
-        same = rw run (ap₂ (λ (a : ℕ) (l : List ℕ). sawFed a n l) (run-number (ltb n (length i))) (front out o (sent-fits (length o) (m .core) i))) }
+          kept = kept-bytes r m copy (M.taken m i o) K;
+        };
+        same = rw run (ap₂ (λ (a : ℕ) (l : List ℕ). sawFed a n l) (run-number (ltb n (length i))) (front out o (sent-fits (length o) (m .core) i)));
+      }
 
   -- the copy with the reported rows replaced is the page
   patched-right : patched r (bitsOf r (m .rows)) copy (m .page) ≡ m .page
@@ -192,7 +195,7 @@ module _ (r : ℕ) (m : Model) (copy : List ℕ) (K : Kept r m copy) where
 
   asking-matches : refusal (W.answerTo (worldOf r m copy) own hers asking) ≡ false
       → Matches r (W.worldAfter (worldOf r m copy) own hers asking) (M.after m asking)
-          (W.seenOf (worldOf r m copy) own hers asking) (M.shows m asking)
+      (W.seenOf (worldOf r m copy) own hers asking) (M.shows m asking)
   asking-matches h =
       let done = asked-done own (asked-whole own h) in
       let bits : ℕ = bitsOf r (m .rows) in
@@ -202,15 +205,18 @@ module _ (r : ℕ) (m : Model) (copy : List ℕ) (K : Kept r m copy) where
         related = record {
           copy = m .page;
           is = rw done (ap₂ (λ (x : ℕ) (c : List ℕ). record { page = m .page; state = record { core = m .core; changed = x }; copy = c }) (sym (bits-none r)) right);
-          kept = record { rows = K .rows; whole = K .whole; size = K .size; right = λ k l e. refl } };
-        same = rw done (ap₃ sawRows (row-list-ext (m .core .rows) (hasBit bits) (m .rows) in-set) (size-ext (m .core .rows) (hasBit bits) (m .rows) in-set) right) }
+          kept = record { rows = K .rows; whole = K .whole; size = K .size; right = λ k l e. refl };
+        };
+        same = rw done (ap₃ sawRows (row-list-ext (m .core .rows) (hasBit bits) (m .rows) in-set) (size-ext (m .core .rows) (hasBit bits) (m .rows) in-set) right);
+      }
 
   reading-matches : (i j : ℕ) → refusal (W.answerTo (worldOf r m copy) own hers (reading i j)) ≡ false
       → Matches r (W.worldAfter (worldOf r m copy) own hers (reading i j)) (M.after m (reading i j))
-          (W.seenOf (worldOf r m copy) own hers (reading i j)) (M.shows m (reading i j))
+      (W.seenOf (worldOf r m copy) own hers (reading i j)) (M.shows m (reading i j))
   reading-matches i j h = record {
-      related = record { copy = copy; is = refl; kept = K };
-      same = ap sawCell (read-is-exact own (m .page) i j .word h) }
+    related = record { copy = copy; is = refl; kept = K };
+    same = ap sawCell (read-is-exact own (m .page) i j .word h);
+  }
 
 -- ---- one item of a list
 
@@ -228,7 +234,7 @@ left-page w (other p) q e = refl
 
 refused-left : (w : World) (call : Call) (s : State) (l : Lent) → refusal (W.answerTo w s l call) ≡ true → W.worldAfter w s l call ≡ w
 refused-left w (feeding i o) s l h =
-    let left = ap (λ (f : Feed). f .page) (fed-left s (W.wordsOf w l) i o h .1) in
+    let left = fed-left s (W.wordsOf w l) i o h .page in
     rw h (ap (λ (p : List ℕ). record { page = p; state = w .state; copy = w .copy }) (left-page w l (fed s (W.wordsOf w l) i o .page) left))
 refused-left w asking s l h = rw h
 refused-left w (reading i j) s l h = refl
@@ -239,13 +245,14 @@ record Steps (r : ℕ) (w : World) (m : Model) (x : Item) : Type 0 where
 
 item : (r : ℕ) (m : Model) (w : World) (x : Item) → Related r w m → (W.isRefused w x ≡ false → Given w x) → (t : Bool) → W.isRefused w x ≡ t → Steps r w m x
 item r m w x R G true e = record {
-    related = rw e (subst (λ (v : World). Related r v m) (sym (refused-left w (x .call) (x .state) (x .lent) e)) R);
-    same = rw e }
+  related = rw e (subst (λ (v : World). Related r v m) (sym (refused-left w (x .call) (x .state) (x .lent) e)) R);
+  same = rw e;
+}
 item r m w x R G false e =
     let g = G e in
     let e' = subst (λ (v : World). refusal (W.answerTo v (x .state) (x .lent) (x .call)) ≡ false) (R .is) e in
     let A = subst (λ (v : World). Matches r (W.worldAfter v (x .state) (x .lent) (x .call)) (M.after m (x .call)) (W.seenOf v (x .state) (x .lent) (x .call)) (M.shows m (x .call)))
-        (sym (R .is)) (given-matches r m (R .copy) (R .kept) (x .call) (x .state) (x .lent) (g .newest ∙ ap (λ (v : World). v .state) (R .is)) (g .lends) e') in
+    (sym (R .is)) (given-matches r m (R .copy) (R .kept) (x .call) (x .state) (x .lent) (g .newest ∙ ap (λ (v : World). v .state) (R .is)) (g .lends) e') in
     record { related = rw e (A .related); same = rw e (ap (λ (y : Seen). y ∷ []) (A .same)) }
 
 -- ---- every list
@@ -280,7 +287,8 @@ start-related r p h =
     record {
       copy = blankPage r;
       is = rw (b .0, b .1) (ap (λ (x : ℕ). record { page = blankPage r; state = record { core = freshCore r; changed = x }; copy = blankPage r }) (sym (bits-none r)));
-      kept = record { rows = begun-rows r; whole = fresh-whole r (d .0); size = long; right = λ k l e. refl } }
+      kept = record { rows = begun-rows r; whole = fresh-whole r (d .0); size = long; right = λ k l e. refl };
+    }
 
 pub demand-3 : Demand3
 demand-3 r p h xs P = agrees r (W.opened r p) (M.begun r) xs (start-related r p h) P

@@ -68,7 +68,8 @@ worldAfter w s l asking =
     record {
       page = w .page;
       state = cond (refusal (a .answer)) (w .state) (a .state);
-      copy = cond (refusal (a .answer)) (w .copy) (patched (s .core .rows) (a .rows) (w .copy) (w .page)) }
+      copy = cond (refusal (a .answer)) (w .copy) (patched (s .core .rows) (a .rows) (w .copy) (w .page));
+    }
 worldAfter w s l (reading r c) = w
 
 -- what is seen of a call that is not refused

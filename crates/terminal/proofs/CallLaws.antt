@@ -25,8 +25,9 @@ use Rattle.terminal.proofs.StepLaws.{Sane}
 pub state-facts : (s : State) → wholeState s ≡ true → WholeState s
 unfolding wholeState
 state-facts s e = record {
-    core = facts (s .core) (and-left (wholeCore (s .core)) (ltb (s .changed) (2 ^ s .core .rows)) e);
-    changed = ltb-true (s .changed) (2 ^ s .core .rows) (and-right (wholeCore (s .core)) (ltb (s .changed) (2 ^ s .core .rows)) e) }
+  core = facts (s .core) (and-left (wholeCore (s .core)) (ltb (s .changed) (2 ^ s .core .rows)) e);
+  changed = ltb-true (s .changed) (2 ^ s .core .rows) (and-right (wholeCore (s .core)) (ltb (s .changed) (2 ^ s .core .rows)) e);
+}
 
 pub state-tested : (s : State) → WholeState s → wholeState s ≡ true
 unfolding wholeState
@@ -86,6 +87,13 @@ pub record Taken (s : State) (p : List ℕ) : Type 0 where
   pub whole : wholeState s ≡ true
   pub size : length p ≡ 80 * s .core .rows
 
+pub record Left (s : State) (p o : List ℕ) (f : Feed) : Type 0 where
+  pub read : f .result .read ≡ 0
+  pub replied : f .result .replied ≡ 0
+  pub state : f .result .state ≡ s
+  pub page : f .page ≡ p
+  pub reply : f .reply ≡ o
+
 module _ (s : State) (p i o : List ℕ) where
   answer-by : (f : Feed) → fed s p i o ≡ f → (t : Bool) → refusal (fed s p i o .result .answer) ≡ t → refusal (f .result .answer) ≡ t
   answer-by f e t h = subst (λ (a : Feed). refusal (a .result .answer) ≡ t) e h
@@ -97,14 +105,17 @@ module _ (s : State) (p i o : List ℕ) where
       (λ e n. absurd (true≢false (answer-by (feedRefused WrongSize s p o) (fed-size s p i o e n) false h)))
       (λ e n. record { whole = e; size = n })
 
-  -- a refused one leaves everything as it came
-  pub fed-left : refusal (fed s p i o .result .answer) ≡ true → (a : Answer) × (fed s p i o ≡ feedRefused a s p o)
+  -- a refused one reads nothing, sends nothing, and leaves everything as it came
+  pub fed-left : refusal (fed s p i o .result .answer) ≡ true → Left s p o (fed s p i o)
   fed-left h =
       fed-cases s p i o
-      (λ e. (Broken, fed-broken s p i o e))
-      (λ e n. (WrongSize, fed-size s p i o e n))
+      (λ e. left-as Broken (fed-broken s p i o e))
+      (λ e n. left-as WrongSize (fed-size s p i o e n))
       (λ e n. absurd (false≢true (sym (run-refusal (ltb (readCount s i o) (length i)))
-        ∙ answer-by (feedFirst (fitting s i o) (readCount s i o) s p i o) (fed-run s p i o e n) true h)))
+      ∙ answer-by (feedFirst (fitting s i o) (readCount s i o) s p i o) (fed-run s p i o e n) true h)))
+    where
+      left-as : (a : Answer) → fed s p i o ≡ feedRefused a s p o → Left s p o (fed s p i o)
+      left-as a e = rw e (record { read = refl; replied = refl; state = refl; page = refl; reply = refl })
 
 -- ---- asking and reading
 

@@ -153,8 +153,9 @@ record Bounded (r : ℕ) (m : Marked) : Type 0 where
 
 bounded-edited : (r : ℕ) (e : Edit) (m : Marked) → Bounded r m → Within r e → Bounded r (edited r e m)
 bounded-edited r e m b w = record {
-    size = ap length (edited-page r e m (b .size)) ∙ length-applied r e (m .page) (b .size) w;
-    few = subst (λ (x : ℕ). x < 2 ^ r) (sym (edited-changed r e m (b .size) (b .few) w)) (added-lt r (m .changed) (changed (m .page) (applied r e (m .page)))) }
+  size = ap length (edited-page r e m (b .size)) ∙ length-applied r e (m .page) (b .size) w;
+  few = subst (λ (x : ℕ). x < 2 ^ r) (sym (edited-changed r e m (b .size) (b .few) w)) (added-lt r (m .changed) (changed (m .page) (applied r e (m .page))));
+}
 
 pub sane-step : (r : ℕ) (d : Screen) (b : ℕ) → Sane r d → Sane r (stepped d b)
 unfolding stepped
@@ -163,14 +164,15 @@ sane-step r d b k =
     let x = decided (d .core) b in
     let s : Sound n x = decided-sound (d .core) b (k .whole) in
     let start : Bounded n (record { page = d .page; changed = d .changed }) =
-        record { size = k .size ∙ ap (λ (i : ℕ). 80 * i) (sym (k .rows)); few = subst (λ (i : ℕ). d .changed < 2 ^ i) (sym (k .rows)) (k .few) } in
+    record { size = k .size ∙ ap (λ (i : ℕ). 80 * i) (sym (k .rows)); few = subst (λ (i : ℕ). d .changed < 2 ^ i) (sym (k .rows)) (k .few) } in
     let m : Marked = edited n (x .second) (edited n (x .first) (record { page = d .page; changed = d .changed })) in
     let end : Bounded n m = bounded-edited n (x .second) _ (bounded-edited n (x .first) _ start (s .first)) (s .second) in
     record {
       whole = s .whole;
       rows = s .rows ∙ k .rows;
       size = end .size ∙ ap (λ (i : ℕ). 80 * i) (k .rows);
-      few = subst (λ (i : ℕ). m .changed < 2 ^ i) (k .rows) (end .few) }
+      few = subst (λ (i : ℕ). m .changed < 2 ^ i) (k .rows) (end .few);
+    }
 
 pub sane-ran : (r : ℕ) (d : Screen) (bs : List ℕ) → Sane r d → Sane r (ran d bs)
 unfolding ran

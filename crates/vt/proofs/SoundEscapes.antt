@@ -67,18 +67,26 @@ page-fits r = record { start = omega arith; end = omega arith }
 module _ (c : Core) (t : Bool) (p : Parts c) where
   good-reset : Good (c .rows) t (reset c)
   good-reset = record {
-      rows = fresh-rows (c .rows);
-      parts = fresh-parts (c .rows) (p .size);
-      wrap = λ e. fresh-wrap (c .rows);
-      first = page-fits (c .rows);
-      second = tt }
+    rows = fresh-rows (c .rows);
+    parts = fresh-parts (c .rows) (p .size);
+    wrap = λ e. fresh-wrap (c .rows);
+    first = page-fits (c .rows);
+    second = tt;
+  }
 
   good-align : Good (c .rows) t (alignScreen c)
   good-align =
       let n = p .count in
       good-only (withCursor (withMargins c (record { top = 1; bottom = c .rows })) (place 1 1)) t (Fill 0 (80 * c .rows) (packed (plainCell 0x45)))
-      (record { size = p .size; count = n; cursor = home-on (c .rows) n; margins = full (c .rows) n;
-        origin = record { low = λ h. omega arith; high = λ h. omega (arith, n) }; saved = p .saved; parser = p .parser })
+      (record {
+        size = p .size;
+        count = n;
+        cursor = home-on (c .rows) n;
+        margins = full (c .rows) n;
+        origin = record { low = λ h. omega arith; high = λ h. omega (arith, n) };
+        saved = p .saved;
+        parser = p .parser;
+      })
       (λ e. no-wrap 1 (c .modes .autowrap)) (page-fits (c .rows))
 
   -- the row is held to the page, or to the margins
@@ -88,32 +96,53 @@ module _ (c : Core) (t : Bool) (p : Parts c) where
   restored-parts true =
       let s = p .saved .place in
       let m = p .margins in
-      record { size = p .size; count = p .count;
+      record {
+        size = p .size;
+        count = p .count;
         cursor = record { row-low = omega arith; row-high = omega arith; column-low = s .column-low; column-high = s .column-high };
-        margins = m; origin = record { low = λ h. omega arith; high = λ h. omega arith }; saved = p .saved; parser = p .parser }
+        margins = m;
+        origin = record { low = λ h. omega arith; high = λ h. omega arith };
+        saved = p .saved;
+        parser = p .parser;
+      }
   restored-parts false =
       let s = p .saved .place in
       let n = p .count in
-      record { size = p .size; count = n;
+      record {
+        size = p .size;
+        count = n;
         cursor = record { row-low = omega arith; row-high = omega arith; column-low = s .column-low; column-high = s .column-high };
-        margins = p .margins; origin = origin-off _ _ _; saved = p .saved; parser = p .parser }
+        margins = p .margins;
+        origin = origin-off _ _ _;
+        saved = p .saved;
+        parser = p .parser;
+      }
 
   good-restore : Good (c .rows) t (restoreCursor c)
   good-restore = record {
-      rows = refl;
-      parts = restored-parts (c .saved .origin);
-      wrap = λ e. record {
-        column = λ h. p .saved .wrap (and-left (c .saved .cursor .wrap) (c .modes .autowrap) h);
-        mode = λ h. and-right (c .saved .cursor .wrap) (c .modes .autowrap) h };
-      first = tt;
-      second = tt }
+    rows = refl;
+    parts = restored-parts (c .saved .origin);
+    wrap = λ e. record {
+      column = λ h. p .saved .wrap (and-left (c .saved .cursor .wrap) (c .modes .autowrap) h);
+      mode = λ h. and-right (c .saved .cursor .wrap) (c .modes .autowrap) h;
+    };
+    first = tt;
+    second = tt;
+  }
 
   module _ (h : WrapOf c) where
     good-save : Good (c .rows) t (saveCursor c)
     good-save =
         good-quiet (saveCursor c .core) t
-        (record { size = p .size; count = p .count; cursor = p .cursor; margins = p .margins; origin = p .origin;
-          saved = record { place = p .cursor; wrap = h .column }; parser = p .parser })
+        (record {
+          size = p .size;
+          count = p .count;
+          cursor = p .cursor;
+          margins = p .margins;
+          origin = p .origin;
+          saved = record { place = p .cursor; wrap = h .column };
+          parser = p .parser;
+        })
         (λ e. h)
 
     good-eightbit : (on : Bool) → Good (c .rows) t (withEightbit c on)

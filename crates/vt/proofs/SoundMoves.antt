@@ -39,15 +39,17 @@ module _ (c : Core) (u : Cursor) (p : Parts c) (f : Fine c u) where
   -- the row stays
   pub fine-column : (column : ℕ) → 1 ≤ column → column ≤ 80 → Fine c (place (u .row) column)
   fine-column column low high = record {
-      place = record { row-low = f .place .row-low; row-high = f .place .row-high; column-low = low; column-high = high };
-      origin = f .origin }
+    place = record { row-low = f .place .row-low; row-high = f .place .row-high; column-low = low; column-high = high };
+    origin = f .origin;
+  }
 
   -- the column stays
   pub fine-row : (row : ℕ) → 1 ≤ row → row ≤ c .rows
       → (c .modes .origin ≡ true → c .margins .top ≤ row) → (c .modes .origin ≡ true → row ≤ c .margins .bottom) → Fine c (place row (u .column))
   fine-row row low high top bottom = record {
-      place = record { row-low = low; row-high = high; column-low = f .place .column-low; column-high = f .place .column-high };
-      origin = record { low = top; high = bottom } }
+    place = record { row-low = low; row-high = high; column-low = f .place .column-low; column-high = f .place .column-high };
+    origin = record { low = top; high = bottom };
+  }
 
   pub fine-left : (n stop : ℕ) → 1 ≤ stop → stop ≤ u .column → Fine c (left u n stop)
   fine-left n stop low high = fine-column (max stop (u .column - n)) (omega arith) (omega (arith, f .place .column-high))
@@ -91,6 +93,7 @@ module _ (c : Core) (u : Cursor) (p : Parts c) (f : Fine c u) where
     where
       stay : Fine c (place (u .row) (u .column))
       stay = record { place = f .place; origin = f .origin }
+
       go : (s t : Bool) → eqb (u .row) (c .margins .bottom) ≡ s → eqb (u .row) (c .rows) ≡ t → Fine c (place (cond (s || t) (u .row) (u .row + 1)) (u .column))
       go true t a b = stay
       go false true a b = stay
@@ -105,6 +108,7 @@ module _ (c : Core) (u : Cursor) (p : Parts c) (f : Fine c u) where
     where
       stay : Fine c (place (u .row) (u .column))
       stay = record { place = f .place; origin = f .origin }
+
       go : (s t : Bool) → eqb (u .row) (c .margins .top) ≡ s → eqb (u .row) 1 ≡ t → Fine c (place (cond (s || t) (u .row) (u .row - 1)) (u .column))
       go true t a b = stay
       go false true a b = stay

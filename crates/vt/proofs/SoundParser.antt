@@ -57,15 +57,15 @@ kept-separator q k =
     let i = q .separators in
     either Kept (ltb i 15)
     (λ e.
-      let l = ltb-true i 15 e in
-      let now : paramCount q ≡ i + 1 = omega arith in
-      let then : min (i + 1 + 1) 16 ≡ suc (i + 1) = omega arith in
-      record { few = omega arith; small = rw then (next-at-most 9999 (i + 1) (q .values) 0 (rw now at (k .small)) (omega arith)) })
+    let l = ltb-true i 15 e in
+    let now : paramCount q ≡ i + 1 = omega arith in
+    let then : min (i + 1 + 1) 16 ≡ suc (i + 1) = omega arith in
+    record { few = omega arith; small = rw then (next-at-most 9999 (i + 1) (q .values) 0 (rw now at (k .small)) (omega arith)) })
     (λ e.
-      let l = ltb-false i 15 e in
-      let few = k .few in
-      let all : paramCount q ≡ 16 = omega arith in
-      record { few = omega arith; small = rw all at (k .small) })
+    let l = ltb-false i 15 e in
+    let few = k .few in
+    let all : paramCount q ≡ 16 = omega arith in
+    record { few = omega arith; small = rw all at (k .small) })
 
 -- ---- the parser
 
@@ -77,11 +77,12 @@ module _ (s : Parser) (w : WholeParser s) where
   -- the phase stays
   stay : (p : Phase) → s .phase ≡ p → WholeParser (inPhase p s)
   stay p e = record {
-      few = w .few;
-      small = w .small;
-      first = subst (λ (x : Phase). implies (leb 1 (intermediates x)) (between 0x20 (s .first) 0x2F) ≡ true) e (w .first);
-      second = subst (λ (x : Phase). implies (leb 2 (intermediates x)) (between 0x20 (s .second) 0x2F) ≡ true) e (w .second);
-      mark = w .mark }
+    few = w .few;
+    small = w .small;
+    first = subst (λ (x : Phase). implies (leb 1 (intermediates x)) (between 0x20 (s .first) 0x2F) ≡ true) e (w .first);
+    second = subst (λ (x : Phase). implies (leb 2 (intermediates x)) (between 0x20 (s .second) 0x2F) ≡ true) e (w .second);
+    mark = w .mark;
+  }
 
   module _ (b : ℕ) where
     abbrev Fine : Transition → Type 0
@@ -112,7 +113,7 @@ module _ (s : Parser) (w : WholeParser s) where
       gather =
           let k : Kept (s .params) = record { few = w .few; small = w .small } in
           let j : Kept (cond (eqb (lowered b) 0x3B) (withSeparator (s .params)) (withDigit (s .params) (lowered b - 0x30))) =
-              either Kept (eqb (lowered b) 0x3B) (λ e. kept-separator (s .params) k) (λ e. kept-digit (s .params) (lowered b - 0x30) k) in
+          either Kept (eqb (lowered b) 0x3B) (λ e. kept-separator (s .params) k) (λ e. kept-digit (s .params) (lowered b - 0x30) k) in
           record { few = j .few; small = j .small; first = refl; second = refl; mark = w .mark }
 
       parameter-fine : (m : Transition) → (ltb (lowered b) 0x3C ≡ false → ltb (lowered b) 0x40 ≡ true → Fine m) → Fine (parameterRule (lowered b) m)

@@ -58,41 +58,44 @@ WrapOf c = WrapHeld (c .cursor .wrap) (c .cursor .column) (c .modes .autowrap)
 
 pub parts-of : (c : Core) → Whole c → Parts c
 parts-of c w = record {
-    size = w .size;
-    count = record { low = w .rows-low; high = w .rows-high };
-    cursor = record { row-low = w .row-low; row-high = w .row-high; column-low = w .column-low; column-high = w .column-high };
-    margins = record { low = w .top; some = w .scrolls; high = w .bottom };
-    origin = record { low = w .origin-top; high = w .origin-bottom };
-    saved = record {
-      place = record { row-low = w .saved-row-low; row-high = w .saved-row-high; column-low = w .saved-column-low; column-high = w .saved-column-high };
-      wrap = w .saved-wrap };
-    parser = w .parser }
+  size = w .size;
+  count = record { low = w .rows-low; high = w .rows-high };
+  cursor = record { row-low = w .row-low; row-high = w .row-high; column-low = w .column-low; column-high = w .column-high };
+  margins = record { low = w .top; some = w .scrolls; high = w .bottom };
+  origin = record { low = w .origin-top; high = w .origin-bottom };
+  saved = record {
+    place = record { row-low = w .saved-row-low; row-high = w .saved-row-high; column-low = w .saved-column-low; column-high = w .saved-column-high };
+    wrap = w .saved-wrap;
+  };
+  parser = w .parser;
+}
 
 pub wrap-of : (c : Core) → Whole c → WrapOf c
 wrap-of c w = record { column = w .wrap-column; mode = w .wrap-mode }
 
 pub whole-of : (c : Core) → Parts c → WrapOf c → Whole c
 whole-of c p h = record {
-    size = p .size;
-    rows-low = p .count .low;
-    rows-high = p .count .high;
-    row-low = p .cursor .row-low;
-    row-high = p .cursor .row-high;
-    column-low = p .cursor .column-low;
-    column-high = p .cursor .column-high;
-    top = p .margins .low;
-    scrolls = p .margins .some;
-    bottom = p .margins .high;
-    wrap-column = h .column;
-    wrap-mode = h .mode;
-    origin-top = p .origin .low;
-    origin-bottom = p .origin .high;
-    saved-row-low = p .saved .place .row-low;
-    saved-row-high = p .saved .place .row-high;
-    saved-column-low = p .saved .place .column-low;
-    saved-column-high = p .saved .place .column-high;
-    saved-wrap = p .saved .wrap;
-    parser = p .parser }
+  size = p .size;
+  rows-low = p .count .low;
+  rows-high = p .count .high;
+  row-low = p .cursor .row-low;
+  row-high = p .cursor .row-high;
+  column-low = p .cursor .column-low;
+  column-high = p .cursor .column-high;
+  top = p .margins .low;
+  scrolls = p .margins .some;
+  bottom = p .margins .high;
+  wrap-column = h .column;
+  wrap-mode = h .mode;
+  origin-top = p .origin .low;
+  origin-bottom = p .origin .high;
+  saved-row-low = p .saved .place .row-low;
+  saved-row-high = p .saved .place .row-high;
+  saved-column-low = p .saved .place .column-low;
+  saved-column-high = p .saved .place .column-high;
+  saved-wrap = p .saved .wrap;
+  parser = p .parser;
+}
 
 -- no wrap due
 pub no-wrap : (column : ℕ) (autowrap : Bool) → WrapHeld false column autowrap
@@ -117,10 +120,11 @@ pub record Sound (r : ℕ) (d : Decision) : Type 0 where
 
 pub settle : (r : ℕ) (t : Bool) (d : Decision) → Good r t d → Sound r (settled t d)
 settle r true d g = record {
-    rows = g .rows;
-    whole = whole-of (settled true d .core) (g .parts) (no-wrap (d .core .cursor .column) (d .core .modes .autowrap));
-    first = g .first;
-    second = g .second }
+  rows = g .rows;
+  whole = whole-of (settled true d .core) (g .parts) (no-wrap (d .core .cursor .column) (d .core .modes .autowrap));
+  first = g .first;
+  second = g .second;
+}
 settle r false d g = record { rows = g .rows; whole = whole-of (d .core) (g .parts) (g .wrap refl); first = g .first; second = g .second }
 
 pub good-only : (c : Core) (t : Bool) (e : Edit) → Parts c → (t ≡ false → WrapOf c) → Within (c .rows) e → Good (c .rows) t (only c e)

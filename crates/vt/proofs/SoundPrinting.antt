@@ -45,15 +45,17 @@ module _ (c : Core) (w : ℕ) (t : Bool) (p : Parts c) where
         parts = with-cursor c (advance (nextLine c) 80 (c .modes .autowrap)) p (fine-advance c (nextLine c) p next (c .modes .autowrap));
         wrap = λ e. advance-wrap c (nextLine c) p next (c .modes .autowrap);
         first = index-within c (lineStart (c .cursor)) p;
-        second = put-within c (nextLine c) w next }
+        second = put-within c (nextLine c) w next;
+      }
 
   put-here : Good (c .rows) t (putHere c w)
   put-here = record {
-      rows = refl;
-      parts = with-cursor c (advance (c .cursor) 80 (c .modes .autowrap)) p (fine-advance c (c .cursor) p (own c p) (c .modes .autowrap));
-      wrap = λ e. advance-wrap c (c .cursor) p (own c p) (c .modes .autowrap);
-      first = put-within c (c .cursor) w (own c p);
-      second = tt }
+    rows = refl;
+    parts = with-cursor c (advance (c .cursor) 80 (c .modes .autowrap)) p (fine-advance c (c .cursor) p (own c p) (c .modes .autowrap));
+    wrap = λ e. advance-wrap c (c .cursor) p (own c p) (c .modes .autowrap);
+    first = put-within c (c .cursor) w (own c p);
+    second = tt;
+  }
 
   pub good-put : Good (c .rows) t (put c w)
   unfolding put

@@ -99,8 +99,10 @@ module _ (c : Core) (t : Bool) (p : Parts c) where
     -- ---- inserting and deleting
 
     inside : insideMargins c ≡ true → (c .margins .top ≤ c .cursor .row) × (c .cursor .row ≤ c .margins .bottom)
-    inside e = (leb-true _ _ (and-left (leb (c .margins .top) (c .cursor .row)) (leb (c .cursor .row) (c .margins .bottom)) e),
-        leb-true _ _ (and-right (leb (c .margins .top) (c .cursor .row)) (leb (c .cursor .row) (c .margins .bottom)) e))
+    inside e = (
+      leb-true _ _ (and-left (leb (c .margins .top) (c .cursor .row)) (leb (c .cursor .row) (c .margins .bottom)) e),
+      leb-true _ _ (and-right (leb (c .margins .top) (c .cursor .row)) (leb (c .cursor .row) (c .margins .bottom)) e),
+    )
 
     lines-fit : (q : Params) → insideMargins c ≡ true → RowsFit (c .rows) (c .cursor .row - 1) (c .margins .bottom) 0 80 (min (paramN q) (rowsBelow c))
     lines-fit q e =
@@ -141,10 +143,11 @@ module _ (c : Core) (t : Bool) (p : Parts c) where
 
   asked-scrolls : (q : Params) → marginsTaken c q ≡ true → Scrolls (c .rows) (askedMargins c q .top) (askedMargins c q .bottom)
   asked-scrolls q e = record {
-      low = omega arith;
-      some = ltb-true (askedMargins c q .top) (askedMargins c q .bottom) e;
-      high = either (λ (b : ℕ). b ≤ c .rows) (eqb (param q 1) 0 || ltb (c .rows) (param q 1)) (λ _. omega arith)
-        (λ f. ltb-false (c .rows) (param q 1) (or-right (eqb (param q 1) 0) (ltb (c .rows) (param q 1)) f)) }
+    low = omega arith;
+    some = ltb-true (askedMargins c q .top) (askedMargins c q .bottom) e;
+    high = either (λ (b : ℕ). b ≤ c .rows) (eqb (param q 1) 0 || ltb (c .rows) (param q 1)) (λ _. omega arith)
+        (λ f. ltb-false (c .rows) (param q 1) (or-right (eqb (param q 1) 0) (ltb (c .rows) (param q 1)) f));
+  }
 
   margin-home : (o : Bool) (top bottom : ℕ) → Scrolls (c .rows) top bottom → OnPage (c .rows) (cond o top 1) 1 × OriginHeld o top bottom (cond o top 1)
   margin-home true top bottom m =
@@ -155,11 +158,11 @@ module _ (c : Core) (t : Bool) (p : Parts c) where
   good-margins q h =
       either (Good (c .rows) t) (marginsTaken c q)
       (λ e.
-        let m = asked-scrolls q e in
-        let f = margin-home (c .modes .origin) (askedMargins c q .top) (askedMargins c q .bottom) m in
-        good-quiet (withCursor (withMargins c (askedMargins c q)) (place (cond (c .modes .origin) (askedMargins c q .top) 1) 1)) t
-        (record { size = p .size; count = p .count; cursor = f .0; margins = m; origin = f .1; saved = p .saved; parser = p .parser })
-        (λ _. no-wrap 1 (c .modes .autowrap)))
+      let m = asked-scrolls q e in
+      let f = margin-home (c .modes .origin) (askedMargins c q .top) (askedMargins c q .bottom) m in
+      good-quiet (withCursor (withMargins c (askedMargins c q)) (place (cond (c .modes .origin) (askedMargins c q .top) 1) 1)) t
+      (record { size = p .size; count = p .count; cursor = f .0; margins = m; origin = f .1; saved = p .saved; parser = p .parser })
+      (λ _. no-wrap 1 (c .modes .autowrap)))
       (λ e. good-same c t p h)
 
 -- wrap due is cleared by the policy
@@ -272,7 +275,7 @@ module _ (c : Core) (p : Parts c) (h : WrapOf c) where
 
   families : (q : Params) (last : ℕ) (i j k l : Bool)
       → Good (c .rows) (cond i (plainClears c q last) (cond j (markedClears q last) l))
-        (cond i (plainSequence c q last) (cond j (markedSequence c q last) (cond k (selectProtection c q) (cond l (quiet (softReset c)) (quiet c)))))
+      (cond i (plainSequence c q last) (cond j (markedSequence c q last) (cond k (selectProtection c q) (cond l (quiet (softReset c)) (quiet c)))))
   families q last true j k l = good-plain (plainClears c q last) q last
   families q last false true k l = good-marked q last
   families q last false false true l = good-protection c l p h q
@@ -281,6 +284,6 @@ module _ (c : Core) (p : Parts c) (h : WrapOf c) where
 
   pub good-sequenced : (q : Params) (mark first second last : ℕ)
       → Good (c .rows) (cond (isPlain mark first second) (plainClears c q last) (cond (isMarked mark first second) (markedClears q last) (isSoftReset mark first second last)))
-        (sequenced c q mark first second last)
+      (sequenced c q mark first second last)
   unfolding sequenced
   good-sequenced q mark first second last = families q last (isPlain mark first second) (isMarked mark first second) (isProtection mark first second last) (isSoftReset mark first second last)

@@ -23,8 +23,8 @@ pub row-count : (r : ℕ) → sized r ≡ true → RowCount r
 row-count r e =
     or-cases (eqb r 24 || eqb r 36) (eqb r 48) e
     (λ (h : (eqb r 24 || eqb r 36) ≡ true). or-cases (eqb r 24) (eqb r 36) h
-      (λ (k : eqb r 24 ≡ true). let q = eqb-true r 24 k in record { low = omega arith; high = omega arith })
-      (λ (k : eqb r 36 ≡ true). let q = eqb-true r 36 k in record { low = omega arith; high = omega arith }))
+    (λ (k : eqb r 24 ≡ true). let q = eqb-true r 24 k in record { low = omega arith; high = omega arith })
+    (λ (k : eqb r 36 ≡ true). let q = eqb-true r 36 k in record { low = omega arith; high = omega arith }))
     (λ (k : eqb r 48 ≡ true). let q = eqb-true r 48 k in record { low = omega arith; high = omega arith })
 
 -- ---- the test and the facts
@@ -66,7 +66,8 @@ facts c e =
       saved-column-low = between-low 1 (s .column) 80 (t 7);
       saved-column-high = between-high 1 (s .column) 80 (t 7);
       saved-wrap = λ h. eqb-true (s .column) 80 (implied (s .wrap) (eqb (s .column) 80) (t 8) h);
-      parser = parser-facts (c .parser) (and-right (all (coreTests c)) (all (parserTests (c .parser))) e) }
+      parser = parser-facts (c .parser) (and-right (all (coreTests c)) (all (parserTests (c .parser))) e);
+    }
 
 pub tested : (c : Core) → Whole c → wholeCore c ≡ true
 unfolding wholeCore
@@ -74,13 +75,17 @@ tested c w =
     let u = c .cursor in
     let m = c .margins in
     let s = c .saved .cursor in
-    rw (w .size,
+    rw (
+      w .size,
       in-between 1 (u .row) (c .rows) (w .row-low) (w .row-high),
       in-between 1 (u .column) 80 (w .column-low) (w .column-high),
-      le-leb 1 (m .top) (w .top), lt-ltb (m .top) (m .bottom) (w .scrolls), le-leb (m .bottom) (c .rows) (w .bottom),
+      le-leb 1 (m .top) (w .top),
+      lt-ltb (m .top) (m .bottom) (w .scrolls),
+      le-leb (m .bottom) (c .rows) (w .bottom),
       implying (u .wrap) (eqb (u .column) 80 && c .modes .autowrap) (λ h. and-both (eqb (u .column) 80) (c .modes .autowrap) (eq-eqb (u .column) 80 (w .wrap-column h)) (w .wrap-mode h)),
       implying (c .modes .origin) (between (m .top) (u .row) (m .bottom)) (λ h. in-between (m .top) (u .row) (m .bottom) (w .origin-top h) (w .origin-bottom h)),
       in-between 1 (s .row) (c .rows) (w .saved-row-low) (w .saved-row-high),
       in-between 1 (s .column) 80 (w .saved-column-low) (w .saved-column-high),
-      implying (s .wrap) (eqb (s .column) 80) (λ h. eq-eqb (s .column) 80 (w .saved-wrap h)))
+      implying (s .wrap) (eqb (s .column) 80) (λ h. eq-eqb (s .column) 80 (w .saved-wrap h)),
+    )
     (parser-tested (c .parser) (w .parser))
