@@ -3,6 +3,7 @@
 pub mod charsets;
 pub mod core;
 pub mod cursor;
+pub mod numbers;
 pub mod params;
 pub mod parser;
 pub mod reply;
