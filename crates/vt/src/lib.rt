@@ -7,4 +7,5 @@ pub mod numbers;
 pub mod params;
 pub mod parser;
 pub mod reply;
+pub mod rules;
 pub mod tabs;

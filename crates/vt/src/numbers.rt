@@ -1,5 +1,6 @@
 // Numbers that are held to a bound.
 ghost use mathlib.Core.Path.{_≡_};
+ghost use mathlib.Core.Bool.{Bool, cond};
 ghost use Prim.Native.Nat.{_+_, _-_, min, max};
 
 // `n` back from a place, but not below `stop`.
@@ -46,4 +47,11 @@ pub fn held(place: u8, low: u8, high: u8) -> u8
         return low;
     }
     if high < place { high } else { place }
+}
+
+// One of two numbers, by a test.
+pub fn pick(test: bool, yes: u8, no: u8) -> u8
+    ensures { λ r. ⌜ r ≡ cond test yes no ⌝ }
+{
+    if test { yes } else { no }
 }
