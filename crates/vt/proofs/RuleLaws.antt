@@ -11,7 +11,12 @@ use Rattle.vt.specs.declared.parser.Op.{Op}
 use Rattle.vt.proofs.parser.Op as op
 use Rattle.vt.specs.declared.parser.Op.the-variants.{Ignore, Print, Sub, Execute, C1, Clear, Collect, Mark, Param, EscDispatch, CsiDispatch}
 use Rattle.vt.specs.declared.parser.Parser.{Parser}
-use Rattle.vt.specs.declared.parser.Action.the-variants.{Nothing}
+use Rattle.vt.specs.declared.parser.Action.{Action}
+use Rattle.vt.specs.declared.parser.Action.the-variants.{Nothing, Character, Substitute, Control, C1Control, EscapeSequence, ControlSequence}
+use Rattle.vt.proofs.parser.Action as action
+use Rattle.vt.specs.declared.core.Core.{Core}
+use Rattle.vt.specs.declared.reply.Reply.the-variants.{Silent}
+use Rattle.vt.specs.Replies.{replyTo}
 use Rattle.vt.specs.Parser.{inSequence, phaseRule, kept, inPhase, asked}
 
 -- the phases of a sequence: all but ground and a string
@@ -64,3 +69,17 @@ asked-nothing s Mark b h = refl
 asked-nothing s Param b h = refl
 asked-nothing s EscDispatch b h = absurd (miss silentOps 9 tt h)
 asked-nothing s CsiDispatch b h = absurd (miss silentOps 10 tt h)
+
+-- the actions that draw no reply
+abbrev pub silentActions : List ℕ
+silentActions = 0 ∷ 1 ∷ 2 ∷ 3 ∷ 5 ∷ []
+
+pub no-reply : (c : Core) (a : Action) → OneOf silentActions (tagOf action.the-type a) → Silent ≡ replyTo c a
+unfolding replyTo
+no-reply c Nothing h = refl
+no-reply c (Character b) h = refl
+no-reply c Substitute h = refl
+no-reply c (Control b) h = refl
+no-reply c (C1Control b) h = absurd (miss silentActions 4 tt h)
+no-reply c (EscapeSequence first second last) h = refl
+no-reply c (ControlSequence mark first second last) h = absurd (miss silentActions 6 tt h)

@@ -3,9 +3,11 @@
 pub mod charsets;
 pub mod core;
 pub mod cursor;
+pub mod families;
 pub mod numbers;
 pub mod params;
 pub mod parser;
 pub mod reply;
 pub mod rules;
+pub mod sending;
 pub mod tabs;
