@@ -1,3 +1,4 @@
+pub mod CellLaws
 pub mod RuleLaws
 pub mod SendLaws
 pub mod TabLaws
