@@ -9,3 +9,7 @@ pub mod SoundSequences
 pub mod SoundParser
 pub mod Sound
 pub mod ReplyLength
+pub mod CellLaws
+pub mod RuleLaws
+pub mod SendLaws
+pub mod TabLaws

@@ -5,6 +5,7 @@ pub mod Charsets
 pub mod Cursor
 pub mod Fresh
 pub mod Whole
+pub mod Bounds
 pub mod Effects
 pub mod Printing
 pub mod Controls

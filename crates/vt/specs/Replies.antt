@@ -1,8 +1,11 @@
 -- Replies (document 01, the section of that name): which one an action draws, and its bytes.
+use mathlib.Core.Path.{_≡_}
 use mathlib.Core.Bool.{Bool, true, false, cond, _&&_}
 use mathlib.Core.List.{List, [], _∷_, _++_}
 use Prim.Native.Nat.{ℕ, _+_, _-_, _/_, _%_}
 use lib.Dec.{eqb, ltb}
+use lib.ListN.{length}
+use lib.Seq.{sets}
 use Rattle.vt.specs.declared.params.Params.{Params}
 use Rattle.vt.specs.declared.parser.Action.{Action}
 use Rattle.vt.specs.declared.parser.Action.the-variants.{Nothing, Character, Substitute, Control, C1Control, EscapeSequence, ControlSequence}
@@ -81,3 +84,9 @@ replyBytes eightbit Printer = csi eightbit ++ bodyOf Printer
 -- the longest
 abbrev pub longestReply : ℕ
 longestReply = 11
+
+-- these bytes were written from `at` on, up to `next`, and nothing else
+pub record Sent (before : List ℕ) (at : ℕ) (bytes : List ℕ) (later : List ℕ) (next : ℕ) : Type 0 where
+  pub is : later ≡ sets before at bytes
+  pub ends : next ≡ at + length bytes
+  pub long : length later ≡ length before

@@ -3,7 +3,13 @@
 pub mod charsets;
 pub mod core;
 pub mod cursor;
+pub mod effects;
+pub mod families;
+pub mod numbers;
 pub mod params;
 pub mod parser;
+pub mod printing;
 pub mod reply;
+pub mod rules;
+pub mod sending;
 pub mod tabs;

@@ -1,0 +1,26 @@
+-- How large the parts of a cell word are, and that a line move keeps the cursor on the page.
+use mathlib.Core.Bool.{Bool, true, false, cond, _||_}
+use Prim.Native.Nat.{ℕ, _+_, _≤_}
+use native.Mathlib.Omega.{arith}
+use Rattle.cells.specs.declared.CharSet.{CharSet}
+use Rattle.cells.specs.declared.CharSet.the-variants.{Ascii, SpecialGraphics, Supplemental, Latin1}
+use Rattle.cells.specs.declared.Rendition.{Rendition}
+use Rattle.cells.specs.Cells.{setNumber, bit, renditionBits}
+
+pub set-small : (s : CharSet) → setNumber s ≤ 3
+set-small Ascii = omega arith
+set-small SpecialGraphics = omega arith
+set-small Supplemental = omega arith
+set-small Latin1 = omega arith
+
+pub bit-small : (b : Bool) → bit b ≤ 1
+bit-small true = omega arith
+bit-small false = omega arith
+
+pub rendition-small : (r : Rendition) → renditionBits r ≤ 15
+rendition-small r = omega (arith, bit-small (r .bold), bit-small (r .underline), bit-small (r .blink), bit-small (r .reverse))
+
+-- a row that stays or goes down is still at least 1
+pub still-low : (t : Bool) (r : ℕ) → 1 ≤ r → 1 ≤ cond t r (r + 1)
+still-low true r h = h
+still-low false r h = omega arith

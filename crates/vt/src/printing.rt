@@ -1,0 +1,205 @@
+// Printing: a byte 20 to 7F or A0 to FF, and SUB.
+use crate::charsets::Sets;
+use crate::charsets::SingleShift;
+use crate::charsets::has_96;
+use crate::core::Core;
+use crate::core::Decision;
+use crate::core::Margins;
+use crate::cursor::Cursor;
+use crate::effects::only;
+use crate::effects::quiet;
+use crate::effects::without_shift;
+use cells::Cell;
+use cells::CharSet;
+use cells::Edit;
+use cells::Rendition;
+ghost use mathlib.Core.Path.{_≡_};
+ghost use mathlib.Core.Bool.{Bool, cond};
+ghost use Prim.Native.Nat.{_-_, _≤_};
+ghost use lib.Dec.{eqb, ltb};
+ghost use Rattle.cells.specs.declared.Edit.the-variants.{Keep, Put, InsertCells, ScrollUp};
+ghost use Rattle.cells.specs.Cells.{setNumber, bit, renditionBits, packed};
+ghost use Rattle.vt.specs.Bounds.{Bounds};
+ghost use Rattle.vt.specs.Charsets.{leftSet, rightSet};
+ghost use Rattle.vt.specs.Printing as printing;
+
+// ---- the cell
+
+fn set_number(set: CharSet) -> u16
+    ensures { λ r. ⌜ r ≡ setNumber set ⌝ }
+{
+    match set {
+        CharSet::Ascii => 0,
+        CharSet::SpecialGraphics => 1,
+        CharSet::Supplemental => 2,
+        CharSet::Latin1 => 3,
+    }
+}
+
+fn bit_of(flag: bool) -> u16
+    ensures { λ r. ⌜ r ≡ bit flag ⌝ }
+{
+    if flag { 1 } else { 0 }
+}
+
+fn rendition_bits(rendition: Rendition) -> u16
+    ensures { λ r. ⌜ r ≡ renditionBits rendition ⌝ }
+{
+    bit_of(rendition.bold)
+        + 2 * bit_of(rendition.underline)
+        + 4 * bit_of(rendition.blink)
+        + 8 * bit_of(rendition.reverse)
+}
+
+fn pack(cell: Cell) -> u16
+    ensures { λ r. ⌜ r ≡ packed cell ⌝ }
+{
+    let set = cell.set;
+    let rendition = cell.rendition;
+    (cell.code % 128) as u16
+        + 128 * set_number(set)
+        + 512 * rendition_bits(rendition)
+        + 8192 * bit_of(cell.protected)
+}
+
+// The cell takes code, set, rendition and protection.
+fn cell_word(core: Core, code: u8, set: CharSet) -> u16
+    ensures { λ r. ⌜ r ≡ printing.cellWord core code set ⌝ }
+{
+    let rendition = core.rendition;
+    pack(Cell {
+        code,
+        set,
+        rendition,
+        protected: core.protected,
+    })
+}
+
+// The set that a byte uses.
+fn used_set(sets: Sets, shift: SingleShift, byte: u8) -> CharSet
+    ensures { λ r. ⌜ r ≡ cond (ltb byte 0x80) (leftSet sets shift) (rightSet sets) ⌝ }
+{
+    if byte < 0x80 {
+        return sets.left_set(shift);
+    }
+    sets.right_set()
+}
+
+// In a 94-sign set 7F, A0 and FF are ignored.
+fn skipped(set: CharSet, byte: u8) -> bool
+    ensures { λ r. ⌜ r ≡ printing.skipped set byte ⌝ }
+{
+    !has_96(set) & (((byte == 0x7F) | (byte == 0xA0)) | (byte == 0xFF))
+}
+
+// In a 94-sign set 20 is code 20 of set ASCII.
+fn shown_set(set: CharSet, byte: u8) -> CharSet
+    ensures { λ r. ⌜ r ≡ printing.shownSet set byte ⌝ }
+{
+    if !has_96(set) & (byte == 0x20) {
+        return CharSet::Ascii;
+    }
+    set
+}
+
+// ---- the edits
+
+// IND at the bottom margin: rows T to B scroll up.
+pub fn index_edit(margins: Margins, cursor: Cursor) -> Edit
+    requires { ⌜ 1 ≤ margins .top ⌝ }
+    ensures { λ r. ⌜ r ≡ cond (eqb (cursor .row) (margins .bottom)) (ScrollUp (margins .top - 1) (margins .bottom) 0 80 1) Keep ⌝ }
+{
+    if cursor.row == margins.bottom {
+        return Edit::ScrollUp {
+            top: margins.top - 1,
+            end: margins.bottom,
+            left: 0,
+            right: 80,
+            count: 1,
+        };
+    }
+    Edit::Keep
+}
+
+// The cell is put; in insert mode the cells from the cursor move right one.
+fn put_edit(insert: bool, cursor: Cursor, word: u16) -> Edit
+    requires { ⌜ (1 ≤ cursor .row) × (1 ≤ cursor .column) ⌝ }
+    ensures { λ r. ⌜ r ≡ cond insert (InsertCells (cursor .row - 1) (cursor .column - 1) 80 1 word) (Put (cursor .row - 1) (cursor .column - 1) word) ⌝ }
+{
+    let row = cursor.row - 1;
+    let column = cursor.column - 1;
+    if insert {
+        return Edit::InsertCells {
+            row,
+            column,
+            end: 80,
+            count: 1,
+            word,
+        };
+    }
+    Edit::Put { row, column, word }
+}
+
+// ---- the printing rule
+
+fn put_here(mut core: Core, word: u16) -> Decision
+    requires { ⌜ Bounds core ⌝ }
+    ensures { λ r. ⌜ r ≡ printing.putHere core word ⌝ }
+{
+    let cursor = core.cursor;
+    let edit = put_edit(core.modes.insert, cursor, word);
+    core.cursor = cursor.advance(80, core.modes.autowrap);
+    only(core, edit)
+}
+
+// With wrap due, column 1 and IND, a step of its own.
+fn wrap_and_put(mut core: Core, word: u16) -> Decision
+    requires { ⌜ Bounds core ⌝ }
+    ensures { λ r. ⌜ r ≡ printing.wrapAndPut core word ⌝ }
+{
+    let cursor = core.cursor;
+    let margins = core.margins;
+    let start = cursor.to_column(1);
+    let next = start.index(margins.bottom, core.rows);
+    let first = index_edit(margins, start);
+    let second = put_edit(core.modes.insert, next, word);
+    core.cursor = next.advance(80, core.modes.autowrap);
+    Decision {
+        core,
+        first,
+        second,
+    }
+}
+
+pub fn put(core: Core, word: u16) -> Decision
+    requires { ⌜ Bounds core ⌝ }
+    ensures { λ r. ⌜ r ≡ printing.put core word ⌝ }
+{
+    if core.cursor.wrap {
+        return wrap_and_put(core, word);
+    }
+    put_here(core, word)
+}
+
+pub fn print(core: Core, byte: u8) -> Decision
+    requires { ⌜ Bounds core ⌝ }
+    ensures { λ r. ⌜ r ≡ printing.printed core byte ⌝ }
+{
+    let sets = core.sets;
+    let shift = core.shift;
+    let set = used_set(sets, shift, byte);
+    if skipped(set, byte) {
+        return quiet(core);
+    }
+    let word = cell_word(core, byte % 128, shown_set(set, byte));
+    put(without_shift(core), word)
+}
+
+// SUB: code 1A of ASCII. It uses no set, and a pending shift stays.
+pub fn substitute(core: Core) -> Decision
+    requires { ⌜ Bounds core ⌝ }
+    ensures { λ r. ⌜ r ≡ printing.substituted core ⌝ }
+{
+    let word = cell_word(core, 0x1A, CharSet::Ascii);
+    put(core, word)
+}
