@@ -1,7 +1,7 @@
 -- Document 01's examples 1 to 10, and some of our own, hold of the definitions (specs/Examples.antt).
 use mathlib.Core.Path.{_≡_, refl}
 use mathlib.Core.Bool.{true}
-use Rattle.terminal.specs.Examples.{holds, table, allHold, p1, p2, p3, p4, p5, p6a, p6b, p7a, p7b, p8, p9, p10, edgeOff, edgeOn, wrapKept, cutBetweenCalls, extendedReport, reports, stopsBefore, scrolled, margined, stops, selective, shifts, designations, restored, fresh8, strings, inSequences, spoilt, manyParameters, emptyParameter, inserting, tabStops, newline, reset, softlyReset, erasing, alignment}
+use Rattle.terminal.specs.Examples.{holds, table, allHold, p1, p2, p3, p4, p5, p6a, p6b, p7a, p7b, p8, p9, p10, edgeOff, edgeOn, wrapKept, cutBetweenCalls, extendedReport, reports, stopsBefore, scrolled, margined, stops, selective, shifts, designations, restored, fresh8, strings, inSequences, spoilt, manyParameters, emptyParameter, inserting, tabStops, newline, reset, softlyReset, erasing, alignment, keepsWrap, endsWrap, outsideMargins, edgeRows, originRows, substitutes, shiftRules, parameterRules, softKeeps, restoreRules, marginEdges, resetRules, parserRules, roomLeft}
 
 -- each is computed in a declaration of its own, since a declaration has a limit of steps
 
@@ -161,6 +161,62 @@ alignment-holds : holds alignment ≡ true
 unfolding holds
 alignment-holds = refl
 
+keepsWrap-holds : holds keepsWrap ≡ true
+unfolding holds
+keepsWrap-holds = refl
+
+endsWrap-holds : holds endsWrap ≡ true
+unfolding holds
+endsWrap-holds = refl
+
+outsideMargins-holds : holds outsideMargins ≡ true
+unfolding holds
+outsideMargins-holds = refl
+
+edgeRows-holds : holds edgeRows ≡ true
+unfolding holds
+edgeRows-holds = refl
+
+originRows-holds : holds originRows ≡ true
+unfolding holds
+originRows-holds = refl
+
+substitutes-holds : holds substitutes ≡ true
+unfolding holds
+substitutes-holds = refl
+
+shiftRules-holds : holds shiftRules ≡ true
+unfolding holds
+shiftRules-holds = refl
+
+parameterRules-holds : holds parameterRules ≡ true
+unfolding holds
+parameterRules-holds = refl
+
+softKeeps-holds : holds softKeeps ≡ true
+unfolding holds
+softKeeps-holds = refl
+
+restoreRules-holds : holds restoreRules ≡ true
+unfolding holds
+restoreRules-holds = refl
+
+marginEdges-holds : holds marginEdges ≡ true
+unfolding holds
+marginEdges-holds = refl
+
+resetRules-holds : holds resetRules ≡ true
+unfolding holds
+resetRules-holds = refl
+
+parserRules-holds : holds parserRules ≡ true
+unfolding holds
+parserRules-holds = refl
+
+roomLeft-holds : holds roomLeft ≡ true
+unfolding holds
+roomLeft-holds = refl
+
 -- every example of the table holds
 pub examples : allHold table ≡ true
-examples = rw (p1-holds, p2-holds, p3-holds, p4-holds, p5-holds, p6a-holds, p6b-holds, p7a-holds, p7b-holds, p8-holds, p9-holds, p10-holds, edgeOff-holds, edgeOn-holds, wrapKept-holds, cutBetweenCalls-holds, extendedReport-holds, reports-holds, stopsBefore-holds, scrolled-holds, margined-holds, stops-holds, selective-holds, shifts-holds, designations-holds, restored-holds, fresh8-holds, strings-holds, inSequences-holds, spoilt-holds, manyParameters-holds, emptyParameter-holds, inserting-holds, tabStops-holds, newline-holds, reset-holds, softlyReset-holds, erasing-holds, alignment-holds)
+examples = rw (p1-holds, p2-holds, p3-holds, p4-holds, p5-holds, p6a-holds, p6b-holds, p7a-holds, p7b-holds, p8-holds, p9-holds, p10-holds, edgeOff-holds, edgeOn-holds, wrapKept-holds, cutBetweenCalls-holds, extendedReport-holds, reports-holds, stopsBefore-holds, scrolled-holds, margined-holds, stops-holds, selective-holds, shifts-holds, designations-holds, restored-holds, fresh8-holds, strings-holds, inSequences-holds, spoilt-holds, manyParameters-holds, emptyParameter-holds, inserting-holds, tabStops-holds, newline-holds, reset-holds, softlyReset-holds, erasing-holds, alignment-holds, keepsWrap-holds, endsWrap-holds, outsideMargins-holds, edgeRows-holds, originRows-holds, substitutes-holds, shiftRules-holds, parameterRules-holds, softKeeps-holds, restoreRules-holds, marginEdges-holds, resetRules-holds, parserRules-holds, roomLeft-holds)

@@ -1,5 +1,5 @@
 -- Worked examples: lists of calls on a fresh 24-row terminal, and what must be seen of each. `examples` of proofs/Examples.antt proves them all.
--- `\u{1b}` is ESC, `\u{9b}` the byte 9B.
+-- A character up to U+00FF stands for the byte of that number: `\u{1b}` is ESC, `\u{9b}` the byte 9B.
 use mathlib.Core.Bool.{Bool, true, false, _&&_, _||_}
 use mathlib.Core.List.{List, [], _∷_}
 use Prim.Native.Nat.{ℕ, zero, suc, _+_, _-_, _*_}
@@ -163,7 +163,7 @@ p7b = send "\u{1b}[1:2AB" ∷ text 1 1 "B " ∷ []
 
 -- 8. Empty input.
 abbrev pub p8 : List Line
-p8 = query "" 64 0 0 "" ∷ rows [] ∷ cursor 1 1 false ∷ []
+p8 = query "" 0 0 0 "" ∷ rows [] ∷ cursor 1 1 false ∷ []
 
 -- 9. A row that is written with what it held is not reported; one that a scroll changed is.
 abbrev pub p9 : List Line
@@ -283,12 +283,68 @@ erasing = send "abc\r\ndef\r\nghi\u{1b}[2;2H\u{1b}[1K" ∷ text 2 1 "  f " ∷ s
 abbrev pub alignment : List Line
 alignment = send "\u{1b}[5;10r\u{1b}[?6h\u{1b}#8" ∷ cursor 1 1 false ∷ margins 1 24 ∷ text 24 78 "EEE" ∷ rows (1 ∷ 2 ∷ 3 ∷ 4 ∷ 5 ∷ 6 ∷ 7 ∷ 8 ∷ 9 ∷ 10 ∷ 11 ∷ 12 ∷ 13 ∷ 14 ∷ 15 ∷ 16 ∷ 17 ∷ 18 ∷ 19 ∷ 20 ∷ 21 ∷ 22 ∷ 23 ∷ 24 ∷ []) ∷ []
 
+-- What keeps wrap due: CAN, SO, SI, HTS, a skipped byte, ?7h, 6 and 7 without ?, what is unlisted or ignored, ESC 7, a report.
+abbrev pub keepsWrap : List Line
+keepsWrap = send "\u{1b}[?7h\u{1b}[1;80Hx\u{18}\u{e}\u{f}\u{88}\u{7f}ÿ\u{81}\u{1b}[?7;25h\u{1b}[7;6l\u{1b}[24;99r\u{1b}[?A\u{1b}[>1H\u{1b}[2:J\u{1b}(A\u{1b}7\u{1b} F" ∷ cursor 1 80 true ∷ query "\u{1b}[6n" 64 0 4 "\u{1b}[1;80R" ∷ cursor 1 80 true ∷ []
+
+-- What ends it though nothing else changes: HT and C in column 80, X, RI in row 1, IND at R, ?7l in a list.
+abbrev pub endsWrap : List Line
+endsWrap = send "\u{1b}[?7h\u{1b}[1;80Hx\t" ∷ cursor 1 80 false ∷ send "\u{1b}[1;80Hx\u{1b}[C" ∷ cursor 1 80 false ∷ send "\u{1b}[1;80Hx\u{1b}[9X" ∷ cursor 1 80 false ∷ send "\u{1b}[1;80Hx\u{1b}M" ∷ cursor 1 80 false ∷ send "\u{1b}[5;10r\u{1b}[24;80Hx\u{84}" ∷ cursor 24 80 false ∷ text 24 80 "x" ∷ send "\u{1b}[1;80Hx\u{1b}[?25;7l" ∷ cursor 1 80 false ∷ send "\u{1b}[7h\u{1b}[1;80Hx" ∷ cursor 1 80 false ∷ []
+
+-- Outside the margins L, M, @ and P do nothing and keep wrap due; X, J and insert mode act as elsewhere.
+abbrev pub outsideMargins : List Line
+outsideMargins = send "b\u{1b}[?7h\u{1b}[5;10r\u{1b}[4;80Hx\u{1b}[9L\u{1b}[M\u{1b}[@\u{1b}[P" ∷ cursor 4 80 true ∷ text 4 80 "x" ∷ send "\u{1b}[X" ∷ cursor 4 80 false ∷ text 4 80 " " ∷ send "\u{1b}[1;80Hc\u{1b}[H\u{1b}[4ha" ∷ text 1 1 "ab " ∷ text 1 80 " " ∷ text 2 1 "  " ∷ send "\u{1b}[5;9H\u{1b}[L" ∷ cursor 5 1 false ∷ send "\u{1b}[4;9H\u{1b}[1J" ∷ text 1 1 "   " ∷ []
+
+-- Outside the margins no row scrolls: a wrap in row R goes to column 1 of that row, RI in row 1 stays, LF below B goes down.
+abbrev pub edgeRows : List Line
+edgeRows = send "\u{1b}[?7ha\r\nb\u{1b}[24HZ\u{1b}[2;9r\u{1b}[24;79Hxyz" ∷ text 24 79 "xy" ∷ text 24 1 "z " ∷ cursor 24 2 false ∷ send "\n" ∷ cursor 24 2 false ∷ text 24 1 "z " ∷ send "\u{1b}[1;5H\u{8d}" ∷ cursor 1 5 false ∷ text 1 1 "a " ∷ text 2 1 "b " ∷ send "\u{1b}[10;5H\n" ∷ cursor 11 5 false ∷ text 2 1 "b " ∷ []
+
+-- Origin: H is held to B, ?6h homes again, r homes to T, ?6l to row 1; ESC # 8 keeps it, and its E is plain.
+abbrev pub originRows : List Line
+originRows = send "\u{1b}[5;10r\u{1b}[?6h\u{1b}[99;99H" ∷ cursor 10 80 false ∷ send "\u{1b}[3;4H\u{1b}[?6h" ∷ cursor 5 1 false ∷ send "\u{1b}[8;9r" ∷ cursor 8 1 false ∷ send "\u{1b}[7m\u{1b}#8\u{1b}[3;4r\u{1b}[H" ∷ text 24 79 "EE" ∷ cursor 3 1 false ∷ send "\u{1b}[?6l" ∷ cursor 1 1 false ∷ send "\u{1b}[9H" ∷ cursor 9 1 false ∷ []
+
+-- SUB is ASCII with rendition and protection whatever the sets; it and CAN leave a shift; with wrap due it is two steps.
+abbrev pub substitutes : List Line
+substitutes = send "\u{1b}(0\u{1b}[1m\u{1b}[1\"q\u{8e}\u{1a}\u{18}aa" ∷ words 1 1 (0x221A ∷ 0x2361 ∷ 0x22E1 ∷ []) ∷ send "\u{1b}c\u{1b}[?7h\u{1b}[24H\u{1a}\u{1b}[24;80H " ∷ rows (1 ∷ 24 ∷ []) ∷ send "\u{1a}" ∷ rows (23 ∷ 24 ∷ []) ∷ cursor 24 2 false ∷ []
+
+-- A shift: the later one counts, A0 and FF leave it, the set shifted to decides on 7F, 20 ends it; ESC 8 and ESC # 8 leave it. G3 into GL and GR.
+abbrev pub shiftRules : List Line
+shiftRules = send "\u{1b}+0\u{8e}\u{8f}\u{a0}ÿ\u{7f}aa\u{1b}.A\u{8e}\u{7f}\u{1b}n\u{8f}\u{7f} a" ∷ words 1 1 (0x00E1 ∷ 0x0061 ∷ 0x01FF ∷ 0x0020 ∷ 0x01E1 ∷ 0x0020 ∷ []) ∷ send "\u{1b}7\u{8f}\u{1b}8\u{1b}#8a\u{1b}ob\u{1b}|ã\u{1b}(A\u{f}d" ∷ words 1 1 (0x00E1 ∷ 0x00E2 ∷ 0x00E3 ∷ 0x0064 ∷ 0x0045 ∷ []) ∷ []
+
+-- Values stay 9,999, h takes the sixteenth parameter, g and " q only the first, m skips what is not listed; a parameter more does no harm.
+abbrev pub parameterRules : List Line
+parameterRules = send "\u{1b}[65537;65538H" ∷ cursor 24 80 false ∷ send "\u{1b}[H\u{1b}[1;21;38mA\u{1b}[m\u{1b}[;;;;;;;;;;;;;;;4h\rB" ∷ words 1 1 (0x0042 ∷ 0x0241 ∷ []) ∷ send "\u{1b}[1;9H\u{1b}[2g\u{1b}[0;3g\r\t" ∷ cursor 1 17 false ∷ send "\u{1b}[4l\r\u{1b}[1;0\"q\u{1b}[9\"q\u{1b}[0mC" ∷ words 1 1 (0x2043 ∷ []) ∷ query "\u{1b}[0;1c\u{1b}[;6n" 8 0 11 "\u{1b}[?64;6c" ∷ []
+
+-- CSI ! p: tabs, newline and reply width stay; insert, protection, sets and the saved cursor are fresh.
+abbrev pub softKeeps : List Line
+softKeeps = send "\u{1b}[1;5H\u{88}\u{1b}[20h\u{1b} G\u{1b}[4h\u{1b}[1\"q\u{1b}(0\u{1b}|\u{1b}7\u{1b}[7;7Hx\u{1b}[7;7H\u{1b}[!pqá" ∷ words 7 7 (0x0071 ∷ 0x0161 ∷ 0x0020 ∷ []) ∷ query "\u{1b}[6n" 64 0 4 "\u{9b}7;9R" ∷ send "\n\t" ∷ cursor 8 5 false ∷ send "\u{1b}8q" ∷ words 1 1 (0x0071 ∷ []) ∷ cursor 1 2 false ∷ []
+
+-- ESC 8: a saved wrap due outlives ?7l, and stays where the row is held to the margins; GL and GR come back, protection does not.
+abbrev pub restoreRules : List Line
+restoreRules = send "\u{1b}[?7h\u{1b}[?6h\u{1b}[2;80Hx\u{1b})0\u{e}\u{1b}|\u{1b}[1\"q\u{1b}7\u{f}\u{1b}~\u{1b}[\"q\u{1b}[?7l\u{1b}[?7h\u{1b}[5;10r\u{1b}8" ∷ cursor 5 80 true ∷ send "qá" ∷ words 6 1 (0x00F1 ∷ 0x0161 ∷ 0x0020 ∷ []) ∷ []
+
+-- A at T and B at B stay, from beyond they go in; r that is ignored moves nothing, a bottom above R is R.
+abbrev pub marginEdges : List Line
+marginEdges = send "\u{1b}[5;10r\u{1b}[5;3H\u{1b}[A" ∷ cursor 5 3 false ∷ send "\u{1b}[10;3H\u{1b}[B" ∷ cursor 10 3 false ∷ send "\u{1b}[11;3H\u{1b}[7A" ∷ cursor 5 3 false ∷ send "\u{1b}[4;3H\u{1b}[9B" ∷ cursor 10 3 false ∷ send "\u{1b}[10;5r\u{1b}[24;99r" ∷ margins 5 10 ∷ cursor 10 3 false ∷ send "\u{1b}[23;99r" ∷ margins 23 24 ∷ cursor 1 1 false ∷ send "\u{1b}[;2r" ∷ margins 1 2 ∷ []
+
+-- ESC c: a row that was noted stays noted, though ESC c does not change it; tabs and reply width are fresh.
+abbrev pub resetRules : List Line
+resetRules = send "\u{1b}[5;5Hx\u{8} \u{1b}[6;6Hy" ∷ send "\u{1b}[3g\u{1b} G\u{1b}c" ∷ rows (5 ∷ 6 ∷ []) ∷ send "\u{1b}c" ∷ rows [] ∷ send "\t" ∷ cursor 1 9 false ∷ query "\u{1b}[5n" 64 0 4 "\u{1b}[0n" ∷ []
+
+-- 80 to 9F drop a sequence, FF is skipped in one, a control before the mark does not count, an escape has two intermediates.
+abbrev pub parserRules : List Line
+parserRules = send "\u{1b}[2\u{80}J\u{1b}[?\u{9c}K\u{1b}(ÿ%\u{7f}5L\u{1b}[\n?7h\u{1b}(B\u{1b}[1;80Hxy" ∷ text 1 1 "JK" ∷ words 1 3 (0x014C ∷ 0x0020 ∷ []) ∷ cursor 2 2 false ∷ []
+
+-- The replies of one call share its room; the byte that does not fit is read by the next call.
+abbrev pub roomLeft : List Line
+roomLeft = query "\u{1b}[5n\u{1b}[6nA" 9 3 7 "\u{1b}[0n" ∷ query "nB" 6 0 2 "\u{1b}[1;1R" ∷ text 1 1 "B " ∷ []
+
 -- ---- the table
 
 abbrev pub table : List (List Line)
 table =
     p1 ∷ p2 ∷ p3 ∷ p4 ∷ p5 ∷ p6a ∷ p6b ∷ p7a ∷ p7b ∷ p8 ∷ p9 ∷ p10
-    ∷ edgeOff ∷ edgeOn ∷ wrapKept ∷ cutBetweenCalls ∷ extendedReport ∷ reports ∷ stopsBefore ∷ scrolled ∷ margined ∷ stops ∷ selective ∷ shifts ∷ designations ∷ restored ∷ fresh8 ∷ strings ∷ inSequences ∷ spoilt ∷ manyParameters ∷ emptyParameter ∷ inserting ∷ tabStops ∷ newline ∷ reset ∷ softlyReset ∷ erasing ∷ alignment ∷ []
+    ∷ edgeOff ∷ edgeOn ∷ wrapKept ∷ cutBetweenCalls ∷ extendedReport ∷ reports ∷ stopsBefore ∷ scrolled ∷ margined ∷ stops ∷ selective ∷ shifts ∷ designations ∷ restored ∷ fresh8 ∷ strings ∷ inSequences ∷ spoilt ∷ manyParameters ∷ emptyParameter ∷ inserting ∷ tabStops ∷ newline ∷ reset ∷ softlyReset ∷ erasing ∷ alignment ∷ keepsWrap ∷ endsWrap ∷ outsideMargins ∷ edgeRows ∷ originRows ∷ substitutes ∷ shiftRules ∷ parameterRules ∷ softKeeps ∷ restoreRules ∷ marginEdges ∷ resetRules ∷ parserRules ∷ roomLeft ∷ []
 
 abbrev pub allHold : List (List Line) → Bool
 allHold [] = true
