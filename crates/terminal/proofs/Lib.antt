@@ -1,3 +1,4 @@
 pub mod Examples
 pub mod StepLaws
 pub mod CallLaws
+pub mod FeedLoop

@@ -5,4 +5,5 @@ pub mod Start
 pub mod Feed
 pub mod Ask
 pub mod Read
+pub mod Ready
 pub mod Examples
