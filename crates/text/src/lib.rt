@@ -1,4 +1,7 @@
-// The page as text.
+// The page as text: a line for each row, trailing spaces off, in UTF-8.
+mod lines;
+mod signs;
+mod utf8;
 
 // What writing a page as text answers.
 pub enum Written {
