@@ -1,3 +1,4 @@
 pub mod Examples
 pub mod Writing
 pub mod Encoding
+pub mod LineLaws
