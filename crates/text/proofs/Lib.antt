@@ -2,3 +2,4 @@ pub mod Examples
 pub mod Writing
 pub mod Encoding
 pub mod LineLaws
+pub mod TextLaws
