@@ -3,3 +3,4 @@ pub mod Writing
 pub mod Encoding
 pub mod LineLaws
 pub mod TextLaws
+pub mod LineCount

@@ -2,7 +2,7 @@
 use mathlib.Core.Path.{_≡_, refl, sym, ap, _∙_}
 use mathlib.Core.Bool.{Bool, cond}
 use mathlib.Core.List.{List, [], _∷_, _++_, append-nil, append-assoc}
-use Prim.Native.Nat.{ℕ, zero, suc, _+_, _-_, _*_, _≤_, _<_}
+use Prim.Native.Nat.{ℕ, zero, suc, _+_, _-_, _*_, _/_, _≤_, _<_}
 use native.Mathlib.Numerals.{add-one}
 use native.Mathlib.Omega.{arith}
 use lib.ListN.{length, take, drop, length-append, length-take}
@@ -10,7 +10,7 @@ use lib.Seq.{sets, drop-drop}
 use borrow.Author.Tests.{le-leb, lt-leb}
 use Rattle.cells.specs.Rows.{row, rowsOf}
 use Rattle.text.specs.declared.Written.the-variants.{Whole, NoRoom}
-use Rattle.text.specs.Text.{line, lines, textOf, pageText, writeGives, written}
+use Rattle.text.specs.Text.{line, lines, textOf, pageText, Write, writeGives, written}
 use Rattle.text.proofs.LineLaws.{line-short}
 
 -- ---- one row more
@@ -62,3 +62,16 @@ module _ (p o : List ℕ) where
   pub written-none : length o < length (pageText p) → written p o ≡ record { result = NoRoom; buffer = o }
   unfolding written
   written-none h = ap (λ (t : Bool). writeGives (cond t (Whole (length (pageText p))) NoRoom) (pageText p) o) (lt-leb (length (pageText p)) (length o) h)
+
+-- ---- a page of n rows
+
+pub page-text : (n : ℕ) (p : List ℕ) → length p ≡ 80 * n → pageText p ≡ textOf n p
+page-text n p h = let e : length p / 80 ≡ n = omega arith in ap (λ (k : ℕ). textOf k p) e
+
+-- a buffer of 241 bytes a row always holds it: 5,784 bytes for 24 rows
+pub always-whole : (n : ℕ) (p o : List ℕ) → length p ≡ 80 * n → 80 * 3 * n + n ≤ length o
+    → written p o ≡ record { result = Whole (length (textOf n p)); buffer = sets o 0 (textOf n p) }
+always-whole n p o h room =
+    let e = page-text n p h in
+    written-whole p o (omega (arith, ap length e, text-short n p))
+    ∙ ap {B = Write} (λ (t : List ℕ). record { result = Whole (length t); buffer = sets o 0 t }) e

@@ -81,6 +81,11 @@ lines (r ∷ rs) = line r ++ lines rs
 unfoldable pub textOf : ℕ → List ℕ → List ℕ
 textOf n p = lines (rowsOf n p)
 
+-- how many lines a text has: its bytes 0A
+unfoldable pub lineCount : List ℕ → ℕ
+lineCount [] = 0
+lineCount (x ∷ xs) = cond (eqb x 0x0A) 1 0 + lineCount xs
+
 -- the text of a page of any length: that of its whole rows
 abbrev pub pageText : List ℕ → List ℕ
 pageText p = textOf (length p / 80) p
