@@ -1,5 +1,5 @@
 -- The text of a page of n rows has n lines: the sign of a cell is never 0A.
-use mathlib.Core.Path.{_≡_, refl, sym, ap, ap₂, subst, _∙_}
+use mathlib.Core.Path.{_≡_, refl, sym, ap, _∙_}
 use mathlib.Core.Bool.{Bool, true, false, cond, _&&_, _||_, false≢true}
 use mathlib.Core.List.{List, [], _∷_, _++_, map}
 use mathlib.Core.Logic.{⊎-elim}
@@ -15,7 +15,7 @@ use Rattle.cells.specs.Rows.{rowsOf}
 use Rattle.cells.proofs.Lists.{split-lt}
 use Rattle.text.specs.Text.{lineDrawing, unshown, itself, graphicSign, signIn, sign, utf8, trimmed, encoded, line, lines, textOf, lineCount}
 use Rattle.text.proofs.Encoding.{one-byte, two-bytes, three-bytes}
-use Rattle.text.proofs.LineLaws.{left-signs}
+use Rattle.text.proofs.Trimming.{left-signs}
 
 -- ---- every sign is 20 or more
 

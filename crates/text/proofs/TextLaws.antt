@@ -1,8 +1,8 @@
 -- The text of a page, row by row, and how long it is at most.
 use mathlib.Core.Path.{_≡_, refl, sym, ap, _∙_}
 use mathlib.Core.Bool.{Bool, cond}
-use mathlib.Core.List.{List, [], _∷_, _++_, append-nil, append-assoc}
-use Prim.Native.Nat.{ℕ, zero, suc, _+_, _-_, _*_, _/_, _≤_, _<_}
+use mathlib.Core.List.{List, [], _∷_, _++_, append-nil, append-assoc, map}
+use Prim.Native.Nat.{ℕ, zero, suc, _+_, _*_, _/_, _≤_, _<_}
 use native.Mathlib.Numerals.{add-one}
 use native.Mathlib.Omega.{arith}
 use lib.ListN.{length, take, drop, length-append, length-take}
@@ -10,8 +10,17 @@ use lib.Seq.{sets, drop-drop}
 use borrow.Author.Tests.{le-leb, lt-leb}
 use Rattle.cells.specs.Rows.{row, rowsOf}
 use Rattle.text.specs.declared.Written.the-variants.{Whole, NoRoom}
-use Rattle.text.specs.Text.{line, lines, textOf, pageText, Write, writeGives, written}
-use Rattle.text.proofs.LineLaws.{line-short}
+use Rattle.text.specs.Text.{sign, trimmed, encoded, line, lines, textOf, pageText, Write, writeGives, written}
+use Rattle.text.proofs.Trimming.{trimmed-within}
+use Rattle.text.proofs.Encoding.{encoded-short}
+
+-- ---- a line
+
+pub line-length : (r : List ℕ) → length (line r) ≡ length (encoded (trimmed (map sign r))) + 1
+line-length r = length-append (encoded (trimmed (map sign r))) (0x0A ∷ [])
+
+pub line-short : (r : List ℕ) → length (line r) ≤ 3 * length r + 1
+line-short r = omega (arith, line-length r, encoded-short (trimmed (map sign r)), trimmed-within r)
 
 -- ---- one row more
 

@@ -5,7 +5,8 @@ use Prim.Native.Nat.{ℕ}
 use native.Mathlib.Omega.{arith}
 use lib.ListN.{length}
 use Rattle.text.specs.Text.{sign, trimmed, encoded}
-use Rattle.text.proofs.LineLaws.{left-count, left-signs, line-length, line-short}
+use Rattle.text.proofs.Trimming.{left-count, left-signs}
+use Rattle.text.proofs.TextLaws.{line-length, line-short}
 use borrow.Author.Needs.{needs}
 use Rattle.text.proofs.lines.line_len.Statement.{statement}
 use Rattle.text.proofs.lines.line_len.Tie as tie

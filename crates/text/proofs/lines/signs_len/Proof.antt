@@ -1,13 +1,13 @@
 -- `text::lines::signs_len` meets its contract. The loop's invariant: `len` is the number of bytes of the first i signs, at most three each.
 use borrow.Author.Needs.{needs}
-use mathlib.Core.Path.{_≡_, refl, sym, ap, _∙_}
+use mathlib.Core.Path.{_≡_, refl, ap, _∙_}
 use mathlib.Core.List.{List, map}
 use Prim.Native.Nat.{ℕ, _-_, _≤_}
 use native.Mathlib.Omega.{arith}
 use lib.ListN.{length, take}
 use lib.Seq.{take-all}
 use Rattle.text.specs.Text.{sign, utf8, encoded}
-use Rattle.text.proofs.LineLaws.{encoded-more-length, utf8-short, signs-short}
+use Rattle.text.proofs.Encoding.{encoded-more-length, utf8-short, signs-short}
 use Rattle.text.proofs.lines.signs_len.Statement.{statement}
 use Rattle.text.proofs.lines.signs_len.Tie as tie
 

@@ -1,12 +1,12 @@
 -- `text::lines::trimmed_len` meets its contract. The loop's invariant: the first n cells, trimmed, are the row, trimmed.
 use borrow.Author.Needs.{needs}
-use mathlib.Core.Path.{_≡_, refl, sym, ap, _∙_}
+use mathlib.Core.Path.{_≡_, sym, ap, _∙_}
 use mathlib.Core.List.{List, map}
 use Prim.Native.Nat.{ℕ, _≤_}
 use native.Mathlib.Omega.{arith}
 use lib.ListN.{length, take}
 use lib.Seq.{take-length}
-use Rattle.text.proofs.LineLaws.{trim-more, trim-stop}
+use Rattle.text.proofs.Trimming.{trim-more, trim-stop}
 use Rattle.text.specs.Text.{sign, trimmed}
 use Rattle.text.proofs.lines.trimmed_len.Statement.{statement}
 use Rattle.text.proofs.lines.trimmed_len.Tie as tie

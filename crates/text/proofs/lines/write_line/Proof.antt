@@ -1,5 +1,5 @@
 -- `text::lines::write_line` meets its contract: the signs of the cells that `trimmed_len` leaves are written, and 0A after them.
-use mathlib.Core.Path.{_≡_, ap, _∙_}
+use mathlib.Core.Path.{ap}
 use mathlib.Core.List.{List, map}
 use Prim.Native.Nat.{ℕ}
 use native.Mathlib.Omega.{arith}
@@ -7,7 +7,8 @@ use lib.ListN.{length}
 use Rattle.text.specs.Text.{sign, trimmed, encoded}
 use Rattle.text.specs.Writes.{Wrote}
 use Rattle.text.proofs.Writing.{wrote-more}
-use Rattle.text.proofs.LineLaws.{left-count, left-signs, line-length}
+use Rattle.text.proofs.Trimming.{left-count, left-signs}
+use Rattle.text.proofs.TextLaws.{line-length}
 use borrow.Author.Needs.{needs}
 use Rattle.text.proofs.lines.write_line.Statement.{statement}
 use Rattle.text.proofs.lines.write_line.Tie as tie

@@ -1,6 +1,6 @@
 -- `text::lines::write_signs` meets its contract. The loop's invariant: the bytes of the first i signs were written.
 use borrow.Author.Needs.{needs}
-use mathlib.Core.Path.{_≡_, refl, sym, ap, _∙_}
+use mathlib.Core.Path.{ap}
 use mathlib.Core.List.{map}
 use Prim.Native.Nat.{ℕ, _+_, _-_, _≤_}
 use native.Mathlib.Omega.{arith}
@@ -9,7 +9,7 @@ use lib.Seq.{take-all}
 use Rattle.text.specs.Text.{sign, utf8, encoded}
 use Rattle.text.specs.Writes.{Wrote}
 use Rattle.text.proofs.Writing.{wrote-none, wrote-more}
-use Rattle.text.proofs.LineLaws.{encoded-more, encoded-more-length, encoded-part}
+use Rattle.text.proofs.Encoding.{encoded-more, encoded-more-length, encoded-part}
 use Rattle.text.proofs.lines.write_signs.Statement.{statement}
 use Rattle.text.proofs.lines.write_signs.Tie as tie
 

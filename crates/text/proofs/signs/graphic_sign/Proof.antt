@@ -1,5 +1,4 @@
 -- `text::signs::graphic_sign` meets its contract: its range is where the definition's test fails, since a code is below 80.
-use mathlib.Core.Path.{_≡_}
 use mathlib.Core.Logic.{⊎-elim}
 use native.Mathlib.Omega.{arith}
 use borrow.Author.Needs.{needs}

@@ -1,5 +1,4 @@
 -- `text::signs::plain_sign` meets its contract: its test is the definition's.
-use mathlib.Core.Path.{_≡_, refl}
 use Rattle.text.proofs.signs.plain_sign.Statement.{statement}
 use Rattle.text.proofs.signs.plain_sign.Tie as tie
 

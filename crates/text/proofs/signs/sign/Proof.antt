@@ -1,5 +1,4 @@
 -- `text::signs::sign` meets its contract: each arm is a case of the definition, at the word's set.
-use mathlib.Core.Path.{_≡_, refl}
 use borrow.Author.Needs.{needs}
 use borrow.Author.Tests.{eq-eqb, ne-eqb}
 use Rattle.cells.specs.Cells.{unpacked}

@@ -1,5 +1,5 @@
 -- `text::utf8::utf8_len` meets its contract: its tests are the definition's.
-use mathlib.Core.Path.{_≡_, sym, ap}
+use mathlib.Core.Path.{sym, ap}
 use lib.ListN.{length}
 use Rattle.text.proofs.Encoding.{one-byte, two-bytes, three-bytes}
 use Rattle.text.proofs.utf8.utf8_len.Statement.{statement}

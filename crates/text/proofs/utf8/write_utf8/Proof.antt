@@ -1,5 +1,5 @@
 -- `text::utf8::write_utf8` meets its contract: in each range the bytes of the definition are written one after the other.
-use mathlib.Core.Path.{_≡_, ap}
+use mathlib.Core.Path.{ap}
 use native.Mathlib.Omega.{arith}
 use lib.ListN.{length}
 use borrow.Author.Needs.{needs}

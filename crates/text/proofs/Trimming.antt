@@ -1,17 +1,15 @@
--- Lines: what is left without the spaces at the end, and the bytes of some signs, cell by cell.
+-- The spaces at the end of a row: what is left without them, cell by cell from the end.
 use mathlib.Core.Path.{_≡_, refl, sym, ap, _∙_}
 use mathlib.Core.Bool.{Bool, true, false, cond}
-use mathlib.Core.List.{List, [], _∷_, _++_, append-nil, append-assoc, map, map-append}
-use Prim.Native.Nat.{ℕ, zero, suc, _+_, _-_, _*_, _≤_, _<_}
+use mathlib.Core.List.{List, [], _∷_, _++_, map, map-append}
+use Prim.Native.Nat.{ℕ, zero, suc, _+_, _-_, _≤_, _<_}
 use native.Mathlib.Numerals.{add-one}
 use native.Mathlib.Omega.{arith}
-use lib.Dec.{eqb, ltb}
-use lib.ListN.{length, getD, take, length-append, length-map, length-take}
+use lib.Dec.{eqb}
+use lib.ListN.{length, getD, take, length-map, length-take}
 use lib.Seq.{take-suc, length-take-le}
-use borrow.Author.Tests.{eq-eqb, ne-eqb}
-use Rattle.text.specs.Text.{sign, utf8, before, trimmed, encoded, line}
-
--- ---- without the spaces at the end
+use borrow.Author.Tests.{ne-eqb}
+use Rattle.text.specs.Text.{sign, before, trimmed}
 
 -- a space at the end goes
 trimmed-space : (xs : List ℕ) → trimmed (xs ++ (0x20 ∷ [])) ≡ trimmed xs
@@ -49,7 +47,7 @@ map-take f (suc n) [] = refl
 map-take f (suc n) (x ∷ xs) = ap (λ (l : List ℕ). f x ∷ l) (map-take f n xs)
 
 -- the signs of one cell more
-signs-more : (r : List ℕ) (i : ℕ) → i < length r → map sign (take (i + 1) r) ≡ map sign (take i r) ++ (sign (getD r i 0) ∷ [])
+pub signs-more : (r : List ℕ) (i : ℕ) → i < length r → map sign (take (i + 1) r) ≡ map sign (take i r) ++ (sign (getD r i 0) ∷ [])
 signs-more r i h = rw add-one (ap (map sign) (take-suc r i 0 h) ∙ map-append sign (take i r) (getD r i 0 ∷ []))
 
 -- the first n cells of a row, and their last
@@ -82,53 +80,3 @@ module _ (r : List ℕ) (n : ℕ) (e : n ≡ length (trimmed (map sign r))) wher
 
   pub left-signs : map sign (take n r) ≡ trimmed (map sign r)
   left-signs = map-take sign n r ∙ ap (λ (k : ℕ). take k (map sign r)) e ∙ sym (trimmed-front (map sign r))
-
--- ---- the bytes of some signs
-
-encoded-append : (xs ys : List ℕ) → encoded (xs ++ ys) ≡ encoded xs ++ encoded ys
-unfolding encoded
-encoded-append [] ys = refl
-encoded-append (x ∷ xs) ys = ap (λ (l : List ℕ). utf8 x ++ l) (encoded-append xs ys) ∙ sym (append-assoc (utf8 x) (encoded xs) (encoded ys))
-
--- one cell more
-pub encoded-more : (r : List ℕ) (i : ℕ) → i < length r → encoded (map sign (take (i + 1) r)) ≡ encoded (map sign (take i r)) ++ utf8 (sign (getD r i 0))
-unfolding encoded
-encoded-more r i h =
-    ap encoded (signs-more r i h)
-    ∙ encoded-append (map sign (take i r)) (sign (getD r i 0) ∷ [])
-    ∙ ap (λ (l : List ℕ). encoded (map sign (take i r)) ++ l) (append-nil (utf8 (sign (getD r i 0))))
-
-pub encoded-more-length : (r : List ℕ) (i : ℕ) → i < length r
-    → length (encoded (map sign (take (i + 1) r))) ≡ length (encoded (map sign (take i r))) + length (utf8 (sign (getD r i 0)))
-encoded-more-length r i h = ap length (encoded-more r i h) ∙ length-append (encoded (map sign (take i r))) (utf8 (sign (getD r i 0)))
-
--- the first cells take no more than all
-pub encoded-part : (n : ℕ) (r : List ℕ) → length (encoded (map sign (take n r))) ≤ length (encoded (map sign r))
-unfolding encoded
-encoded-part zero r = omega arith
-encoded-part (suc n) [] = omega arith
-encoded-part (suc n) (x ∷ r) =
-    omega (arith, encoded-part n r, length-append (utf8 (sign x)) (encoded (map sign (take n r))), length-append (utf8 (sign x)) (encoded (map sign r)))
-
-cond-length : (t : Bool) (x y : List ℕ) (n : ℕ) → length x ≤ n → length y ≤ n → length (cond t x y) ≤ n
-cond-length true x y n p q = p
-cond-length false x y n p q = q
-
-pub utf8-short : (x : ℕ) → length (utf8 x) ≤ 3
-utf8-short x = cond-length (ltb x 0x80) _ _ 3 (omega arith) (cond-length (ltb x 0x800) _ _ 3 (omega arith) (omega arith))
-
-encoded-short : (xs : List ℕ) → length (encoded xs) ≤ 3 * length xs
-unfolding encoded
-encoded-short [] = omega arith
-encoded-short (x ∷ xs) = omega (arith, encoded-short xs, utf8-short x, length-append (utf8 x) (encoded xs))
-
-pub signs-short : (r : List ℕ) (n : ℕ) → length (encoded (map sign (take n r))) ≤ 3 * n
-signs-short r n = omega (arith, encoded-short (map sign (take n r)), length-map (take n r) sign, length-take n r)
-
--- ---- a line
-
-pub line-length : (r : List ℕ) → length (line r) ≡ length (encoded (trimmed (map sign r))) + 1
-line-length r = length-append (encoded (trimmed (map sign r))) (0x0A ∷ [])
-
-pub line-short : (r : List ℕ) → length (line r) ≤ 3 * length r + 1
-line-short r = omega (arith, line-length r, encoded-short (trimmed (map sign r)), trimmed-within r)
