@@ -14,8 +14,8 @@ use Rattle.cells.specs.Cells.{unpacked}
 use Rattle.cells.specs.Rows.{rowsOf}
 use Rattle.cells.proofs.Lists.{split-lt}
 use Rattle.text.specs.Text.{lineDrawing, unshown, itself, graphicSign, signIn, sign, utf8, trimmed, encoded, line, lines, textOf, lineCount}
-use Rattle.text.proofs.Encoding.{one-byte, two-bytes, three-bytes}
 use Rattle.text.proofs.Trimming.{left-signs}
+use Rattle.text.proofs.Encoding.{one-byte, two-bytes, three-bytes}
 
 -- ---- every sign is 20 or more
 

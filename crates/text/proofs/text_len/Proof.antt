@@ -1,10 +1,10 @@
 -- `text::text_len` meets its contract. The loop's invariant: `len` is the length of the text of the first rows, which is small enough.
-use borrow.Author.Needs.{needs}
 use mathlib.Core.Path.{_≡_, refl, ap, _∙_}
 use mathlib.Core.List.{List}
 use Prim.Native.Nat.{ℕ, _+_, _-_, _/_, _≤_}
 use native.Mathlib.Omega.{arith}
 use lib.ListN.{length}
+use borrow.Author.Needs.{needs}
 use Rattle.text.specs.Text.{line, lines, textOf}
 use Rattle.text.proofs.TextLaws.{text-more-length, text-short}
 use Rattle.text.proofs.text_len.Statement.{statement}
@@ -31,7 +31,8 @@ total : (c : tie.After-line-len Inv-loop μ-loop)
     → c .before .before .before .loop .len + c .line-len .result ≡ length (textOf (c .before .before .before .loop .row + 1) (c .before .before .before .before .before .args .page .now))
 total c =
     let head = c .before .before .before in
-    omega (arith, text-more-length (head .loop .row) (head .before .before .args .page .now), c .line-len .ensures, ap (λ (r : List ℕ). length (line r)) (c .before .row-of .ensures))
+    let line-is = ap (λ (r : List ℕ). length (line r)) (c .before .row-of .ensures) in
+    omega (arith, text-more-length (head .loop .row) (head .before .before .args .page .now), c .line-len .ensures)
 
 add-len : tie.Need-add-len Inv-loop μ-loop
 add-len c =

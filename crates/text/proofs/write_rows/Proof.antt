@@ -1,10 +1,10 @@
 -- `text::write_rows` meets its contract. The loop's invariant: the text of the first rows was written.
-use borrow.Author.Needs.{needs}
 use mathlib.Core.Path.{_≡_, ap}
 use mathlib.Core.List.{List}
 use Prim.Native.Nat.{ℕ, _+_, _-_, _/_, _≤_}
 use native.Mathlib.Omega.{arith}
 use lib.ListN.{length}
+use borrow.Author.Needs.{needs}
 use Rattle.text.specs.Text.{line, lines, textOf}
 use Rattle.text.specs.Writes.{Wrote}
 use Rattle.text.proofs.Writing.{wrote-none, wrote-more}
@@ -28,10 +28,12 @@ row-of-requires c κs = search needs
 write-line-requires : tie.Need-write-line-requires Inv-loop μ-loop
 write-line-requires c κs =
     let head = c .before .before .before in
-    let page = head .before .before .before .args .page .now in
     let start = head .before .before .before in
+    let page = start .args .page .now in
     let k = head .loop .row in
-    omega (arith, start .pre, head .loop .inv .1, text-more-length k page, text-part (k + 1) (length page / 80) page (omega arith), ap (λ (r : List ℕ). length (line r)) (c .before .row-of .ensures))
+    let line-is = ap (λ (r : List ℕ). length (line r)) (c .before .row-of .ensures) in
+    let room = text-part (k + 1) (length page / 80) page (omega arith) in
+    omega (arith, start .pre, head .loop .inv .1, text-more-length k page)
 
 add-row : tie.Need-add-row Inv-loop μ-loop
 add-row c = search needs
@@ -43,8 +45,11 @@ loop-again : tie.Need-loop-again Inv-loop μ-loop
 loop-again c =
     let called = c .before .before in
     let head = called .before .before .before .before in
-    let page = head .before .before .before .args .page .now in
-    (omega arith, rw (text-more (head .loop .row) page, ← called .before .before .row-of .ensures) (wrote-more (head .loop .inv .1) (called .write-line .ensures)))
+    let page = head .before .before .before .args .page .now in (
+      omega arith,
+      rw (text-more (head .loop .row) page, ← called .before .before .row-of .ensures)
+          (wrote-more (head .loop .inv .1) (called .write-line .ensures)),
+    )
 
 same-length : tie.Need-same-length Inv-loop μ-loop
 same-length c = search needs

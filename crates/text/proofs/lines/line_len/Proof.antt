@@ -4,10 +4,10 @@ use mathlib.Core.List.{List, map}
 use Prim.Native.Nat.{ℕ}
 use native.Mathlib.Omega.{arith}
 use lib.ListN.{length}
+use borrow.Author.Needs.{needs}
 use Rattle.text.specs.Text.{sign, trimmed, encoded}
 use Rattle.text.proofs.Trimming.{left-count, left-signs}
 use Rattle.text.proofs.TextLaws.{line-length, line-short}
-use borrow.Author.Needs.{needs}
 use Rattle.text.proofs.lines.line_len.Statement.{statement}
 use Rattle.text.proofs.lines.line_len.Tie as tie
 

@@ -1,11 +1,11 @@
 -- `text::lines::signs_len` meets its contract. The loop's invariant: `len` is the number of bytes of the first i signs, at most three each.
-use borrow.Author.Needs.{needs}
 use mathlib.Core.Path.{_≡_, refl, ap, _∙_}
 use mathlib.Core.List.{List, map}
 use Prim.Native.Nat.{ℕ, _-_, _≤_}
 use native.Mathlib.Omega.{arith}
 use lib.ListN.{length, take}
 use lib.Seq.{take-all}
+use borrow.Author.Needs.{needs}
 use Rattle.text.specs.Text.{sign, utf8, encoded}
 use Rattle.text.proofs.Encoding.{encoded-more-length, utf8-short, signs-short}
 use Rattle.text.proofs.lines.signs_len.Statement.{statement}
@@ -48,7 +48,8 @@ loop-again : tie.Need-loop-again Inv-loop μ-loop
 loop-again c =
     let head = c .before .before .before .before in
     let more = encoded-more-length (head .before .before .args .cells .now) (head .loop .i) (omega arith) in
-    (omega arith, omega (arith, more, c .utf8-len .ensures, ap (λ (x : ℕ). length (utf8 x)) (c .before .sign .ensures)))
+    let bytes = ap (λ (x : ℕ). length (utf8 x)) (c .before .sign .ensures) in
+    (omega arith, omega (arith, c .utf8-len .ensures))
 
 returns : tie.Need-returns Inv-loop μ-loop
 returns c =

@@ -1,13 +1,13 @@
 -- `text::lines::trimmed_len` meets its contract. The loop's invariant: the first n cells, trimmed, are the row, trimmed.
-use borrow.Author.Needs.{needs}
 use mathlib.Core.Path.{_≡_, sym, ap, _∙_}
 use mathlib.Core.List.{List, map}
 use Prim.Native.Nat.{ℕ, _≤_}
 use native.Mathlib.Omega.{arith}
 use lib.ListN.{length, take}
 use lib.Seq.{take-length}
-use Rattle.text.proofs.Trimming.{trim-more, trim-stop}
+use borrow.Author.Needs.{needs}
 use Rattle.text.specs.Text.{sign, trimmed}
+use Rattle.text.proofs.Trimming.{trim-more, trim-stop}
 use Rattle.text.proofs.lines.trimmed_len.Statement.{statement}
 use Rattle.text.proofs.lines.trimmed_len.Tie as tie
 
@@ -34,9 +34,8 @@ sign-requires c κs = search needs
 
 returns : tie.Need-returns Inv-loop μ-loop
 returns c =
-    let row = c .before .before .before .before .before .before .args .row .now in
     let head = c .before .before .before .before in
-    sym (trim-stop row (head .loop .n) (omega arith) (head .loop .inv .0) (λ e. c .if1 .taken (c .before .sign .ensures ∙ e)))
+    sym (trim-stop (head .before .before .args .row .now) (head .loop .n) (omega arith) (head .loop .inv .0) (λ e. c .if1 .taken (c .before .sign .ensures ∙ e)))
     ∙ ap length (head .loop .inv .1)
 
 loop-less : tie.Need-loop-less Inv-loop μ-loop
@@ -44,15 +43,16 @@ loop-less c = search needs
 
 loop-again : tie.Need-loop-again Inv-loop μ-loop
 loop-again c =
-    let row = c .before .before .before .before .before .before .args .row .now in
     let head = c .before .before .before .before in
-    (omega arith, sym (trim-more row (head .loop .n) (omega arith) (head .loop .inv .0) (sym (c .before .sign .ensures) ∙ c .if1 .left)) ∙ head .loop .inv .1)
+    let space = sym (c .before .sign .ensures) ∙ c .if1 .left in
+    (omega arith, sym (trim-more (head .before .before .args .row .now) (head .loop .n) (omega arith) (head .loop .inv .0) space) ∙ head .loop .inv .1)
 
 returns-2 : tie.Need-returns-2 Inv-loop μ-loop
 unfolding trimmed
 returns-2 c =
+    let row = c .before .before .before .args .row .now in
     let none : c .before .loop .n ≡ 0 = omega arith in
-    none ∙ ap length (sym (ap (λ (k : ℕ). trimmed (map sign (take k (c .before .before .before .args .row .now)))) none) ∙ c .before .loop .inv .1)
+    none ∙ ap length (sym (ap (λ (k : ℕ). trimmed (map sign (take k row))) none) ∙ c .before .loop .inv .1)
 
 pub trimmed-len-spec : {M : Type 1} → statement M
 trimmed-len-spec =

@@ -4,12 +4,12 @@ use mathlib.Core.List.{List, map}
 use Prim.Native.Nat.{ℕ}
 use native.Mathlib.Omega.{arith}
 use lib.ListN.{length}
+use borrow.Author.Needs.{needs}
 use Rattle.text.specs.Text.{sign, trimmed, encoded}
 use Rattle.text.specs.Writes.{Wrote}
 use Rattle.text.proofs.Writing.{wrote-more}
 use Rattle.text.proofs.Trimming.{left-count, left-signs}
 use Rattle.text.proofs.TextLaws.{line-length}
-use borrow.Author.Needs.{needs}
 use Rattle.text.proofs.lines.write_line.Statement.{statement}
 use Rattle.text.proofs.lines.write_line.Tie as tie
 

@@ -1,11 +1,11 @@
 -- `text::lines::write_signs` meets its contract. The loop's invariant: the bytes of the first i signs were written.
-use borrow.Author.Needs.{needs}
 use mathlib.Core.Path.{ap}
 use mathlib.Core.List.{map}
 use Prim.Native.Nat.{ℕ, _+_, _-_, _≤_}
 use native.Mathlib.Omega.{arith}
 use lib.ListN.{length, take}
 use lib.Seq.{take-all}
+use borrow.Author.Needs.{needs}
 use Rattle.text.specs.Text.{sign, utf8, encoded}
 use Rattle.text.specs.Writes.{Wrote}
 use Rattle.text.proofs.Writing.{wrote-none, wrote-more}
@@ -36,7 +36,8 @@ write-utf8-requires : tie.Need-write-utf8-requires Inv-loop μ-loop
 write-utf8-requires c κs =
     let head = c .before .before .before .before in
     let cells = head .before .before .before .args .cells .now in
-    omega (arith, encoded-more-length cells (head .loop .i) (omega arith), encoded-part (head .loop .i + 1) cells, ap (λ (x : ℕ). length (utf8 x)) (c .sign .ensures))
+    let bytes = ap (λ (x : ℕ). length (utf8 x)) (c .sign .ensures) in
+    omega (arith, encoded-more-length cells (head .loop .i) (omega arith), encoded-part (head .loop .i + 1) cells)
 
 add-i : tie.Need-add-i Inv-loop μ-loop
 add-i c = search needs
