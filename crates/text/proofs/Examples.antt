@@ -6,7 +6,8 @@ use Prim.Native.Char.{Char, code}
 use Prim.Native.String.{String}
 use lib.ListN.{replicate}
 use Rattle.cells.specs.Cells.{unpacked}
-use Rattle.text.specs.Text.{sign, trimmed, encoded, lines, textOf}
+use Rattle.text.specs.declared.Written.the-variants.{Whole, NoRoom}
+use Rattle.text.specs.Text.{sign, trimmed, encoded, lines, textOf, written}
 
 -- the codes of a text whose characters are all below 80
 abbrev pub ascii : String → List ℕ
@@ -29,3 +30,12 @@ pub signs :
     ≡ 0xE2 ∷ 0x90 ∷ 0xA6 ∷ 0xE2 ∷ 0x90 ∷ 0xA6 ∷ 0x3F ∷ 0xC3 ∷ 0xA9 ∷ 0xE2 ∷ 0x94 ∷ 0x8C ∷ 0xCF ∷ 0x80 ∷ 0xC2 ∷ 0xA0 ∷ 0xC2 ∷ 0xB7 ∷ 0x3F ∷ 0x3F ∷ []
 unfolding unpacked sign encoded
 signs = refl
+
+-- a row that fits, and one that does not
+pub whole : written (0x48 ∷ 0x69 ∷ replicate 78 0x20) (1 ∷ 2 ∷ 3 ∷ 4 ∷ []) ≡ record { result = Whole 3; buffer = 0x48 ∷ 0x69 ∷ 0x0A ∷ 4 ∷ [] }
+unfolding unpacked sign trimmed encoded lines textOf written
+whole = refl
+
+pub no-room : written (0x48 ∷ 0x69 ∷ replicate 78 0x20) (1 ∷ 2 ∷ []) ≡ record { result = NoRoom; buffer = 1 ∷ 2 ∷ [] }
+unfolding unpacked sign trimmed encoded lines textOf written
+no-room = refl

@@ -1,1 +1,6 @@
 pub mod Examples
+pub mod Writing
+pub mod Trimming
+pub mod Encoding
+pub mod TextLaws
+pub mod LineCount

@@ -2,13 +2,16 @@
 use mathlib.Core.Bool.{Bool, true, false, cond, _||_}
 use mathlib.Core.List.{List, [], _∷_, _++_, map}
 use Prim.Native.Nat.{ℕ, _+_, _-_, _/_, _%_}
-use lib.Dec.{eqb, ltb}
-use lib.ListN.{getD}
+use lib.Dec.{eqb, leb, ltb}
+use lib.ListN.{length, getD}
+use lib.Seq.{sets}
 use Rattle.cells.specs.declared.CharSet.{CharSet}
 use Rattle.cells.specs.declared.CharSet.the-variants.{Ascii, SpecialGraphics, Supplemental, Latin1}
 use Rattle.cells.specs.declared.Cell.{Cell}
 use Rattle.cells.specs.Cells.{unpacked}
 use Rattle.cells.specs.Rows.{rowsOf}
+use Rattle.text.specs.declared.Written.{Written}
+use Rattle.text.specs.declared.Written.the-variants.{Whole, NoRoom}
 
 -- ---- the sign of a cell, as a code point
 
@@ -77,3 +80,32 @@ lines (r ∷ rs) = line r ++ lines rs
 -- the text of a page of n rows
 unfoldable pub textOf : ℕ → List ℕ → List ℕ
 textOf n p = lines (rowsOf n p)
+
+-- how many lines a text has: its bytes 0A
+unfoldable pub lineCount : List ℕ → ℕ
+lineCount [] = 0
+lineCount (x ∷ xs) = cond (eqb x 0x0A) 1 0 + lineCount xs
+
+-- the text of a page of any length: that of its whole rows
+abbrev pub pageText : List ℕ → List ℕ
+pageText p = textOf (length p / 80) p
+
+-- ---- writing it into a buffer
+
+-- the result, and what is left in the buffer
+pub record Write : Type 0 where
+  pub result : Written
+  pub buffer : List ℕ
+
+-- given exactly when
+abbrev pub writeAnswer : List ℕ → List ℕ → Written
+writeAnswer t o = cond (leb (length t) (length o)) (Whole (length t)) NoRoom
+
+-- returned and left
+abbrev pub writeGives : Written → List ℕ → List ℕ → Write
+writeGives (Whole n) t o = record { result = Whole n; buffer = sets o 0 t }
+writeGives NoRoom t o = record { result = NoRoom; buffer = o }
+
+-- a page and a buffer
+unfoldable pub written : List ℕ → List ℕ → Write
+written p o = let t = pageText p in writeGives (writeAnswer t o) t o

@@ -1,0 +1,74 @@
+-- `text::lines::signs_len` meets its contract. The loop's invariant: `len` is the number of bytes of the first i signs, at most three each.
+use mathlib.Core.Path.{_≡_, refl, ap, _∙_}
+use mathlib.Core.List.{List, map}
+use Prim.Native.Nat.{ℕ, _-_, _≤_}
+use native.Mathlib.Omega.{arith}
+use lib.ListN.{length, take}
+use lib.Seq.{take-all}
+use borrow.Author.Needs.{needs}
+use Rattle.text.specs.Text.{sign, utf8, encoded}
+use Rattle.text.proofs.Encoding.{encoded-more-length, utf8-short, signs-short}
+use Rattle.text.proofs.lines.signs_len.Statement.{statement}
+use Rattle.text.proofs.lines.signs_len.Tie as tie
+
+abbrev Inv-loop : tie.InvT-loop
+Inv-loop cells len₀ i₀ len i = (i ≤ length cells) × (len ≡ length (encoded (map sign (take i cells))))
+
+abbrev μ-loop : tie.MeasureT-loop
+μ-loop cells len₀ i₀ len i = length cells - i
+
+loop-holds : tie.Need-loop-holds Inv-loop μ-loop
+unfolding encoded
+loop-holds c = (omega arith, refl)
+
+mul-sign : tie.Need-mul-sign Inv-loop μ-loop
+mul-sign c = search needs
+
+shared-slice-read-sign : tie.Need-shared-slice-read-sign Inv-loop μ-loop
+shared-slice-read-sign c = search needs
+
+sign-requires : tie.Need-sign-requires Inv-loop μ-loop
+sign-requires c κs = search needs
+
+utf8-len-requires : tie.Need-utf8-len-requires Inv-loop μ-loop
+utf8-len-requires c κs = search needs
+
+add-len : tie.Need-add-len Inv-loop μ-loop
+add-len c =
+    let head = c .before .before .before .before in
+    omega (arith, signs-short (head .before .before .args .cells .now) (head .loop .i), utf8-short (c .before .sign .result))
+
+add-i : tie.Need-add-i Inv-loop μ-loop
+add-i c = search needs
+
+loop-less : tie.Need-loop-less Inv-loop μ-loop
+loop-less c = search needs
+
+loop-again : tie.Need-loop-again Inv-loop μ-loop
+loop-again c =
+    let head = c .before .before .before .before in
+    let more = encoded-more-length (head .before .before .args .cells .now) (head .loop .i) (omega arith) in
+    let bytes = ap (λ (x : ℕ). length (utf8 x)) (c .before .sign .ensures) in
+    (omega arith, omega (arith, c .utf8-len .ensures))
+
+returns : tie.Need-returns Inv-loop μ-loop
+returns c =
+    let head = c .before in
+    head .loop .inv .1 ∙ ap (λ (l : List ℕ). length (encoded (map sign l))) (take-all (head .loop .i) (head .before .before .args .cells .now) (c .loop-test .left))
+
+pub signs-len-spec : {M : Type 1} → statement M
+signs-len-spec =
+    tie.close
+    (tie.spec
+    Inv-loop
+    μ-loop
+    loop-holds
+    mul-sign
+    shared-slice-read-sign
+    sign-requires
+    utf8-len-requires
+    add-len
+    add-i
+    loop-less
+    loop-again
+    returns)
