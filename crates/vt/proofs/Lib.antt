@@ -1,4 +1,5 @@
 pub mod CellLaws
+pub mod Choice
 pub mod RuleLaws
 pub mod SendLaws
 pub mod TabLaws

@@ -1,10 +1,13 @@
 // All of the terminal that needs no page: what a byte does to its state, which edits it makes of the
 // page, and what it replies.
 pub mod charsets;
+pub mod controls;
 pub mod core;
 pub mod cursor;
 pub mod effects;
+pub mod escapes;
 pub mod families;
+pub mod fresh;
 pub mod numbers;
 pub mod params;
 pub mod parser;
