@@ -1,5 +1,6 @@
 pub mod CellLaws
 pub mod Choice
+pub mod ParamLaws
 pub mod RuleLaws
 pub mod SendLaws
 pub mod TabLaws

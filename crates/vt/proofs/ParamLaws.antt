@@ -1,0 +1,48 @@
+-- All parameters in order: what h, l and m do with the list is what the code does with parameter 0, 1 and so on.
+use mathlib.Core.Path.{_≡_, refl, sym, ap, ap₂, _∙_}
+use mathlib.Core.Bool.{cond}
+use mathlib.Core.List.{List, [], _∷_}
+use Prim.Native.Nat.{ℕ, zero, suc, _+_, _-_, _*_, _≤_, _<_, min}
+use native.Mathlib.Numerals.{add-one}
+use native.Mathlib.Omega.{arith}
+use borrow.Author.Tests.{lt-ltb}
+use lib.ListN.{length, getD, drop}
+use lib.Seq.{length-take-le, getD-take, drop-cons, drop-nil}
+use Rattle.vt.specs.declared.params.Params.{Params}
+use Rattle.vt.specs.Params.{paramCount, paramList, param}
+use Rattle.vt.specs.Sequences.{folded}
+use Rattle.vt.proofs.Choice.{take-yes}
+
+past : (n : ℕ) (l : List ℕ) → length l ≤ n → drop n l ≡ []
+past n [] h = drop-nil n
+past zero (x ∷ xs) h = absurd (omega arith)
+past (suc n) (x ∷ xs) h = past n xs (omega arith)
+
+-- as many are listed as are kept
+pub list-length : (q : Params) → length (q .values) ≡ 16 → length (paramList q) ≡ paramCount q
+list-length q e = length-take-le (paramCount q) (q .values) (omega arith)
+
+-- below the count, the list has what `param` gives
+pub list-at : (q : Params) (i : ℕ) → i < paramCount q → getD (paramList q) i 0 ≡ param q i
+list-at q i h = getD-take (paramCount q) (q .values) i 0 h ∙ take-yes _ _ (lt-ltb i (paramCount q) h) refl
+
+-- one parameter of the fold
+pub fold-more : {A : Type 0} (f : A → ℕ → A) (a : A) (q : Params) (i : ℕ) → length (q .values) ≡ 16 → i < paramCount q
+    → folded f (f a (param q i)) (drop (i + 1) (paramList q)) ≡ folded f a (drop i (paramList q))
+fold-more f a q i e h =
+    let l = paramList q in
+    let h′ : i < length l = omega (arith, list-length q e) in
+    ap₂ (λ (x n : ℕ). folded f (f a x) (drop n l)) (sym (list-at q i h)) (add-one i) ∙ sym (ap (folded f a) (drop-cons l i 0 h′))
+
+-- and its end
+pub fold-end : {A : Type 0} (f : A → ℕ → A) (a : A) (q : Params) (i : ℕ) → length (q .values) ≡ 16 → paramCount q ≤ i
+    → folded f a (drop i (paramList q)) ≡ a
+fold-end f a q i e h =
+    let l = paramList q in
+    let h′ : length l ≤ i = omega (arith, list-length q e) in
+    ap (folded f a) (past i l h′)
+
+-- a run of n cells from a place of a row, held to the row
+pub run-end : (r c n : ℕ) → 1 ≤ c → c ≤ 80
+    → 80 * (r - 1) + (c - 1) + min n (81 - c) ≡ min (80 * (r - 1) + (c - 1) + n) (80 * (r - 1) + 80)
+run-end r c n h k = omega arith
