@@ -10,7 +10,6 @@ use lib.ListN.{length, getD, drop}
 use lib.Seq.{length-take-le, getD-take, drop-cons, drop-nil}
 use Rattle.vt.specs.declared.params.Params.{Params}
 use Rattle.vt.specs.Params.{paramCount, paramList, param}
-use Rattle.vt.specs.Sequences.{folded}
 use Rattle.vt.proofs.Choice.{take-yes}
 
 past : (n : ℕ) (l : List ℕ) → length l ≤ n → drop n l ≡ []
@@ -26,21 +25,19 @@ list-length q e = length-take-le (paramCount q) (q .values) (omega arith)
 pub list-at : (q : Params) (i : ℕ) → i < paramCount q → getD (paramList q) i 0 ≡ param q i
 list-at q i h = getD-take (paramCount q) (q .values) i 0 h ∙ take-yes _ _ (lt-ltb i (paramCount q) h) refl
 
--- one parameter of the fold
-pub fold-more : {A : Type 0} (f : A → ℕ → A) (a : A) (q : Params) (i : ℕ) → length (q .values) ≡ 16 → i < paramCount q
-    → folded f (f a (param q i)) (drop (i + 1) (paramList q)) ≡ folded f a (drop i (paramList q))
-fold-more f a q i e h =
+-- the list from parameter i on
+pub list-more : (q : Params) (i : ℕ) → length (q .values) ≡ 16 → i < paramCount q → drop i (paramList q) ≡ param q i ∷ drop (i + 1) (paramList q)
+list-more q i e h =
     let l = paramList q in
     let h′ : i < length l = omega (arith, list-length q e) in
-    ap₂ (λ (x n : ℕ). folded f (f a x) (drop n l)) (sym (list-at q i h)) (add-one i) ∙ sym (ap (folded f a) (drop-cons l i 0 h′))
+    drop-cons l i 0 h′ ∙ ap₂ (λ (x n : ℕ). x ∷ drop n l) (list-at q i h) (sym (add-one i))
 
 -- and its end
-pub fold-end : {A : Type 0} (f : A → ℕ → A) (a : A) (q : Params) (i : ℕ) → length (q .values) ≡ 16 → paramCount q ≤ i
-    → folded f a (drop i (paramList q)) ≡ a
-fold-end f a q i e h =
+pub list-end : (q : Params) (i : ℕ) → length (q .values) ≡ 16 → paramCount q ≤ i → drop i (paramList q) ≡ []
+list-end q i e h =
     let l = paramList q in
     let h′ : length l ≤ i = omega (arith, list-length q e) in
-    ap (folded f a) (past i l h′)
+    past i l h′
 
 -- a run of n cells from a place of a row, held to the row
 pub run-end : (r c n : ℕ) → 1 ≤ c → c ≤ 80

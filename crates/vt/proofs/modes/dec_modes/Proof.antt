@@ -7,7 +7,7 @@ use Rattle.vt.specs.declared.core.Core.{Core}
 use Rattle.vt.specs.Params.{paramList}
 use Rattle.vt.specs.Sequences.{folded, decMode}
 use Rattle.vt.specs.Effects.{quiet}
-use Rattle.vt.proofs.ParamLaws.{fold-more, fold-end}
+use Rattle.vt.proofs.ParamLaws.{list-more, list-end}
 use Rattle.vt.proofs.modes.dec_modes.Statement.{statement}
 use Rattle.vt.proofs.modes.dec_modes.Tie as tie
 
@@ -40,7 +40,7 @@ loop-again c =
     let g = c .before .before .before .before .before .good .1 .0 in
     let e : length (c .before .before .before .before .before .args .params .values) ≡ 16 = search needs in
     ap (λ (x : Core). folded (decMode (c .before .before .before .before .before .args .on)) x (drop (c .before .before .before .loop .i + 1) (paramList (c .before .before .before .before .before .args .params)))) (c .dec-mode .ensures ∙ ap (decMode (c .before .before .before .before .before .args .on) (c .before .before .before .loop .core)) (c .before .get .ensures))
-    ∙ fold-more (decMode (c .before .before .before .before .before .args .on)) _ _ _ e (rw (c .before .before .before .before .count .ensures) at (c .before .before .loop-test .taken))
+    ∙ sym (ap (folded (decMode (c .before .before .before .before .before .args .on)) (c .before .before .before .loop .core)) (list-more _ _ e (rw (c .before .before .before .before .count .ensures) at (c .before .before .loop-test .taken))))
     ∙ c .before .before .before .loop .inv
 
 quiet-requires : tie.Need-quiet-requires Inv-loop μ-loop
@@ -50,7 +50,8 @@ returns : tie.Need-returns Inv-loop μ-loop
 returns c =
     let g = c .before .before .before .before .good .1 .0 in
     let e : length (c .before .before .before .before .args .params .values) ≡ 16 = search needs in
-    c .quiet .ensures ∙ ap quiet (sym (fold-end (decMode (c .before .before .before .before .args .on)) _ _ _ e (rw (c .before .before .before .count .ensures) at (c .before .loop-test .left))) ∙ c .before .before .loop .inv)
+    c .quiet .ensures
+    ∙ ap quiet (sym (ap (folded (decMode (c .before .before .before .before .args .on)) (c .before .before .loop .core)) (list-end _ _ e (rw (c .before .before .before .count .ensures) at (c .before .loop-test .left)))) ∙ c .before .before .loop .inv)
 
 pub dec-modes-spec : {M : Type 1} → statement M
 dec-modes-spec = tie.close (tie.spec Inv-loop μ-loop count-requires loop-holds get-requires dec-mode-requires add-i loop-less loop-again quiet-requires returns)

@@ -7,7 +7,7 @@ use Rattle.cells.specs.declared.Rendition.{Rendition}
 use Rattle.vt.specs.Params.{paramList}
 use Rattle.vt.specs.Sequences.{folded, rendered}
 use Rattle.vt.specs.Effects.{quiet, withRendition}
-use Rattle.vt.proofs.ParamLaws.{fold-more, fold-end}
+use Rattle.vt.proofs.ParamLaws.{list-more, list-end}
 use Rattle.vt.proofs.modes.select_graphic_rendition.Statement.{statement}
 use Rattle.vt.proofs.modes.select_graphic_rendition.Tie as tie
 
@@ -40,7 +40,7 @@ loop-again c =
     let g = c .before .before .before .before .before .before .good .1 .0 in
     let e : length (c .before .before .before .before .before .before .args .params .values) ≡ 16 = search needs in
     ap (λ (x : Rendition). folded rendered x (drop (c .before .before .before .loop .i + 1) (paramList (c .before .before .before .before .before .before .args .params)))) (c .render .ensures ∙ ap (rendered (c .before .before .before .loop .rendition)) (c .before .get .ensures))
-    ∙ fold-more rendered _ _ _ e (rw (c .before .before .before .before .count .ensures) at (c .before .before .loop-test .taken))
+    ∙ sym (ap (folded rendered (c .before .before .before .loop .rendition)) (list-more _ _ e (rw (c .before .before .before .before .count .ensures) at (c .before .before .loop-test .taken))))
     ∙ c .before .before .before .loop .inv
 
 quiet-requires : tie.Need-quiet-requires Inv-loop μ-loop
@@ -52,7 +52,7 @@ returns c =
     let e : length (c .before .before .before .before .before .args .params .values) ≡ 16 = search needs in
     c .quiet .ensures
     ∙ ap (λ (x : Rendition). quiet (withRendition (c .before .before .before .before .before .args .core) x))
-    (sym (fold-end rendered _ _ _ e (rw (c .before .before .before .count .ensures) at (c .before .loop-test .left))) ∙ c .before .before .loop .inv)
+    (sym (ap (folded rendered (c .before .before .loop .rendition)) (list-end _ _ e (rw (c .before .before .before .count .ensures) at (c .before .loop-test .left)))) ∙ c .before .before .loop .inv)
 
 pub select-graphic-rendition-spec : {M : Type 1} → statement M
 select-graphic-rendition-spec = tie.close (tie.spec Inv-loop μ-loop count-requires loop-holds get-requires render-requires add-i loop-less loop-again quiet-requires returns)
