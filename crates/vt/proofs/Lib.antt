@@ -9,7 +9,11 @@ pub mod SoundSequences
 pub mod SoundParser
 pub mod Sound
 pub mod ReplyLength
+pub mod BoolLaws
 pub mod CellLaws
+pub mod Choice
+pub mod ParamLaws
+pub mod PlainByte
 pub mod RuleLaws
 pub mod SendLaws
 pub mod TabLaws

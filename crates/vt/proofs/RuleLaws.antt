@@ -1,5 +1,6 @@
 -- What an arm for "the other cases" of a `match` gives is what the definition has for each of these cases.
 use mathlib.Core.Path.{_≡_, refl}
+use mathlib.Core.Bool.{false}
 use mathlib.Core.List.{List, [], _∷_}
 use Prim.Native.Nat.{ℕ, _%_, _<_}
 use native.Mathlib.Omega.{arith}
@@ -20,6 +21,7 @@ use Rattle.vt.proofs.parser.Action as action
 use Rattle.vt.specs.declared.core.Core.{Core}
 use Rattle.vt.specs.declared.reply.Reply.the-variants.{Silent}
 use Rattle.vt.specs.Replies.{replyTo}
+use Rattle.vt.specs.WrapDue.{clearsWrap}
 use Rattle.vt.specs.Parser.{lowered, inSequence, phaseRule, kept, inPhase, asked}
 use Rattle.vt.proofs.Tests.{either}
 
@@ -91,3 +93,17 @@ no-reply c (Control b) h = refl
 no-reply c (C1Control b) h = absurd (miss silentActions 4 tt h)
 no-reply c (EscapeSequence first second last) h = refl
 no-reply c (ControlSequence mark first second last) h = absurd (miss silentActions 6 tt h)
+
+-- the actions that leave wrap due to printing
+abbrev pub unsettledActions : List ℕ
+unsettledActions = 0 ∷ 1 ∷ 2 ∷ []
+
+pub keeps-wrap : (c : Core) (a : Action) → OneOf unsettledActions (tagOf action.the-type a) → false ≡ clearsWrap c a
+unfolding clearsWrap
+keeps-wrap c Nothing h = refl
+keeps-wrap c (Character b) h = refl
+keeps-wrap c Substitute h = refl
+keeps-wrap c (Control b) h = absurd (miss unsettledActions 3 tt h)
+keeps-wrap c (C1Control b) h = absurd (miss unsettledActions 4 tt h)
+keeps-wrap c (EscapeSequence first second last) h = absurd (miss unsettledActions 5 tt h)
+keeps-wrap c (ControlSequence mark first second last) h = absurd (miss unsettledActions 6 tt h)

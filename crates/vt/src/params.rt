@@ -1,7 +1,9 @@
 // The parameters of a control sequence.
 ghost use mathlib.Core.Path.{_≡_};
 ghost use Prim.Native.Nat.{_+_, _*_, min};
-ghost use Rattle.vt.specs.Params.{noParams, paramCount, param, paramN, withDigit, withSeparator};
+ghost use Rattle.vt.specs.Whole.{allAtMost};
+ghost use Rattle.vt.specs.WrapDue.{member};
+ghost use Rattle.vt.specs.Params.{noParams, paramCount, paramList, param, paramN, withDigit, withSeparator};
 
 // One parameter more is kept than separators (3B) were read, 16 at most. `separators` stays at 16,
 // where what follows is dropped. A value past the last parameter is none, and is never read.
@@ -81,5 +83,35 @@ impl Params {
             self.separators = 16;
         }
         self
+    }
+
+    // Whether a value is among the parameters.
+    pub fn has(self, value: u16) -> bool
+        ensures { λ r. ⌜ r ≡ member value (paramList self) ⌝ }
+    {
+        let count = self.count();
+        let mut i: u8 = 0;
+        while i < count {
+            if self.get(i) == value {
+                return true;
+            }
+            i += 1;
+        }
+        false
+    }
+
+    // Whether no parameter is above a bound.
+    pub fn at_most(self, most: u16) -> bool
+        ensures { λ r. ⌜ r ≡ allAtMost most (paramList self) ⌝ }
+    {
+        let count = self.count();
+        let mut i: u8 = 0;
+        while i < count {
+            if most < self.get(i) {
+                return false;
+            }
+            i += 1;
+        }
+        true
     }
 }

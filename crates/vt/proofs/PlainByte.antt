@@ -1,0 +1,49 @@
+-- A graphic character in ground: the parser stays as it is, the character is printed, and nothing is sent.
+use mathlib.Core.Path.{_≡_, refl, sym, ap, _∙_}
+use mathlib.Core.Bool.{Bool, true, false, not, _&&_}
+use mathlib.Core.List.{[]}
+use Prim.Native.Nat.{ℕ}
+use native.Mathlib.Omega.{arith}
+use lib.Dec.{leb}
+use borrow.Author.Tests.{leb-true, not-true, le-ltb, ne-eqb}
+use Rattle.vt.specs.declared.parser.Phase.{Phase}
+use Rattle.vt.specs.declared.parser.Phase.the-variants.{Ground}
+use Rattle.vt.specs.declared.parser.Op.the-variants.{Print}
+use Rattle.vt.specs.declared.parser.Transition.{Transition}
+use Rattle.vt.specs.declared.parser.Parser.{Parser}
+use Rattle.vt.specs.declared.parser.Action.the-variants.{Character}
+use Rattle.vt.specs.declared.parser.Decoded.{Decoded}
+use Rattle.vt.specs.declared.core.Core.{Core}
+use Rattle.vt.specs.Parser.{between, to, transition, inPhase, kept, asked, decode}
+use Rattle.vt.specs.Printing.{printed}
+use Rattle.vt.specs.WrapDue.{clearsWrap}
+use Rattle.vt.specs.Effects.{withParser}
+use Rattle.vt.specs.Replies.{replyTo, replyBytes}
+use Rattle.vt.specs.Decide.{executed, decided, sends}
+use Rattle.vt.proofs.BoolLaws.{head-true, tail-true}
+
+-- 20 to 7F and A0 to FF
+abbrev pub graphic : ℕ → Bool
+graphic b = leb 0x20 b && not (between 0x80 b 0x9F)
+
+ground-rule : (b : ℕ) → graphic b ≡ true → transition Ground b ≡ to Ground Print
+unfolding transition
+ground-rule b h =
+    let l = leb-true 0x20 b (head-true (leb 0x20 b) (not (between 0x80 b 0x9F)) h) in
+    let n = not-true (between 0x80 b 0x9F) (tail-true (leb 0x20 b) (not (between 0x80 b 0x9F)) h) in
+    rw (ne-eqb b 0x18 (omega arith), ne-eqb b 0x1A (omega arith), ne-eqb b 0x1B (omega arith), n, le-ltb b 0x20 l)
+
+pub plain-decode : (s : Parser) (b : ℕ) → s .phase ≡ Ground → graphic b ≡ true → decode s b ≡ record { parser = s; action = Character b }
+unfolding decode
+plain-decode s b e h =
+    ap (λ (t : Transition). record { parser = kept s (t .next) (t .op) b; action = asked s (t .op) b })
+    (ap (λ (p : Phase). transition p b) e ∙ ground-rule b h)
+    ∙ ap (λ (p : Phase). record { parser = inPhase p s; action = Character b }) (sym e)
+
+pub plain-decides : (c : Core) (b : ℕ) → c .parser .phase ≡ Ground → graphic b ≡ true → printed c b ≡ decided c b
+unfolding decided executed clearsWrap
+plain-decides c b e h = sym (ap (λ (d : Decoded). executed (withParser c (d .parser)) (d .action)) (plain-decode (c .parser) b e h))
+
+pub plain-sends : (c : Core) (b : ℕ) → c .parser .phase ≡ Ground → graphic b ≡ true → sends c b ≡ []
+unfolding sends replyTo replyBytes
+plain-sends c b e h = ap (λ (d : Decoded). replyBytes (c .modes .eightbit) (replyTo c (d .action))) (plain-decode (c .parser) b e h)

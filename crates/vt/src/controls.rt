@@ -1,0 +1,184 @@
+// The controls: below 20 and 80 to 9F.
+use crate::charsets::Register;
+use crate::charsets::SingleShift;
+use crate::core::Core;
+use crate::core::Decision;
+use crate::core::Margins;
+use crate::cursor::Cursor;
+use crate::effects::only;
+use crate::effects::quiet;
+use crate::effects::with_shift;
+use crate::printing::index_edit;
+use cells::Edit;
+ghost use mathlib.Core.Path.{_≡_};
+ghost use mathlib.Core.Bool.{Bool, cond};
+ghost use Prim.Native.Nat.{_-_, _≤_};
+ghost use lib.Dec.{eqb};
+ghost use Rattle.cells.specs.declared.Edit.the-variants.{Keep, ScrollDown};
+ghost use Rattle.vt.specs.Bounds.{Bounds};
+ghost use Rattle.vt.specs.Escapes.{intoGl};
+ghost use Rattle.vt.specs.Effects as effects;
+ghost use Rattle.vt.specs.Controls as controls;
+
+// ---- lines
+
+// IND, from a cursor.
+fn index_from(mut core: Core, cursor: Cursor) -> Decision
+    requires { ⌜ (cursor .row ≤ core .rows) × (1 ≤ core .margins .top) ⌝ }
+    ensures { λ r. ⌜ r ≡ controls.indexFrom core cursor ⌝ }
+{
+    let margins = core.margins;
+    let edit = index_edit(margins, cursor);
+    core.cursor = cursor.index(margins.bottom, core.rows);
+    only(core, edit)
+}
+
+// IND.
+fn index(core: Core) -> Decision
+    requires { ⌜ Bounds core ⌝ }
+    ensures { λ r. ⌜ r ≡ controls.indexed core ⌝ }
+{
+    let cursor = core.cursor;
+    index_from(core, cursor)
+}
+
+// NEL: column 1 and IND.
+fn next_line(core: Core) -> Decision
+    requires { ⌜ Bounds core ⌝ }
+    ensures { λ r. ⌜ r ≡ controls.nextLined core ⌝ }
+{
+    let cursor = core.cursor;
+    index_from(core, cursor.to_column(1))
+}
+
+// LF, VT, FF: IND, and column 1 in newline mode.
+fn line_feed(core: Core) -> Decision
+    requires { ⌜ Bounds core ⌝ }
+    ensures { λ r. ⌜ r ≡ controls.lineFed core ⌝ }
+{
+    if core.modes.newline {
+        return next_line(core);
+    }
+    index(core)
+}
+
+// RI at the top margin: rows T to B scroll down.
+fn reverse_index_edit(margins: Margins, cursor: Cursor) -> Edit
+    requires { ⌜ 1 ≤ margins .top ⌝ }
+    ensures { λ r. ⌜ r ≡ cond (eqb (cursor .row) (margins .top)) (ScrollDown (margins .top - 1) (margins .bottom) 0 80 1) Keep ⌝ }
+{
+    if cursor.row == margins.top {
+        return Edit::ScrollDown {
+            top: margins.top - 1,
+            end: margins.bottom,
+            left: 0,
+            right: 80,
+            count: 1,
+        };
+    }
+    Edit::Keep
+}
+
+// RI.
+fn reverse_index(mut core: Core) -> Decision
+    requires { ⌜ Bounds core ⌝ }
+    ensures { λ r. ⌜ r ≡ controls.reverseIndexed core ⌝ }
+{
+    let cursor = core.cursor;
+    let margins = core.margins;
+    let edit = reverse_index_edit(margins, cursor);
+    core.cursor = cursor.reverse_index(margins.top);
+    only(core, edit)
+}
+
+// ---- columns
+
+// BS: left, stops at 1.
+fn backspace(mut core: Core) -> Decision
+    ensures { λ r. ⌜ r ≡ controls.backspaced core ⌝ }
+{
+    let cursor = core.cursor;
+    core.cursor = cursor.left(1, 1);
+    quiet(core)
+}
+
+// HT: the next tab, else 80.
+fn horizontal_tab(mut core: Core) -> Decision
+    ensures { λ r. ⌜ r ≡ controls.tabbed core ⌝ }
+{
+    let cursor = core.cursor;
+    let tabs = core.tabs;
+    core.cursor = cursor.tab(tabs, 80);
+    quiet(core)
+}
+
+// CR: column 1.
+fn carriage_return(mut core: Core) -> Decision
+    ensures { λ r. ⌜ r ≡ controls.returned core ⌝ }
+{
+    let cursor = core.cursor;
+    core.cursor = cursor.to_column(1);
+    quiet(core)
+}
+
+// HTS: a tab at the cursor's column.
+fn set_tab(mut core: Core) -> Decision
+    requires { ⌜ Bounds core ⌝ }
+    ensures { λ r. ⌜ r ≡ controls.tabSet core ⌝ }
+{
+    let tabs = core.tabs;
+    core.tabs = tabs.set(core.cursor.column);
+    quiet(core)
+}
+
+// ---- sets
+
+// SO, SI and the locking shifts of GL.
+pub fn into_gl(mut core: Core, register: Register) -> Decision
+    ensures { λ r. ⌜ r ≡ intoGl core register ⌝ }
+{
+    let sets = core.sets;
+    core.sets = sets.into_gl(register);
+    quiet(core)
+}
+
+// SS2, SS3.
+fn single_shift(core: Core, shift: SingleShift) -> Decision
+    ensures { λ r. ⌜ r ≡ effects.quiet (effects.withShift core shift) ⌝ }
+{
+    quiet(with_shift(core, shift))
+}
+
+// ---- the controls
+
+pub fn control(core: Core, byte: u8) -> Decision
+    requires { ⌜ Bounds core ⌝ }
+    ensures { λ r. ⌜ r ≡ controls.controlled core byte ⌝ }
+{
+    match byte {
+        0x08 => backspace(core),
+        0x09 => horizontal_tab(core),
+        0x0A => line_feed(core),
+        0x0B => line_feed(core),
+        0x0C => line_feed(core),
+        0x0D => carriage_return(core),
+        0x0E => into_gl(core, Register::G1),
+        0x0F => into_gl(core, Register::G0),
+        _ => quiet(core),
+    }
+}
+
+pub fn c1_control(core: Core, byte: u8) -> Decision
+    requires { ⌜ Bounds core ⌝ }
+    ensures { λ r. ⌜ r ≡ controls.c1Controlled core byte ⌝ }
+{
+    match byte {
+        0x84 => index(core),
+        0x85 => next_line(core),
+        0x88 => set_tab(core),
+        0x8D => reverse_index(core),
+        0x8E => single_shift(core, SingleShift::Ss2),
+        0x8F => single_shift(core, SingleShift::Ss3),
+        _ => quiet(core),
+    }
+}

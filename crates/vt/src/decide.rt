@@ -1,0 +1,96 @@
+// One byte: the next core, and at most two edits.
+use crate::controls::c1_control;
+use crate::controls::control;
+use crate::core::Core;
+use crate::core::Decision;
+use crate::effects::quiet;
+use crate::escapes::escape;
+use crate::parser::Action;
+use crate::parser::Phase;
+use crate::printing::print;
+use crate::printing::substitute;
+use crate::rules::between;
+use crate::sequences::sequence;
+use crate::wrap::clears_wrap;
+use crate::wrap::settle;
+ghost use mathlib.Core.Path.{_≡_};
+ghost use mathlib.Core.Bool.{Bool, not, _&&_};
+ghost use lib.Dec.{leb};
+ghost use Rattle.vt.specs.Bounds.{Bounds};
+ghost use Rattle.vt.specs.Parser as parsing;
+ghost use Rattle.vt.specs.Decide as decisions;
+
+// What an action does, but for wrap due.
+fn effect(core: Core, action: Action) -> Decision
+    requires { ⌜ Bounds core ⌝ }
+    ensures { λ r. ⌜ r ≡ decisions.effect core action ⌝ }
+{
+    match action {
+        Action::Nothing => quiet(core),
+        Action::Character { byte } => print(core, byte),
+        Action::Substitute => substitute(core),
+        Action::Control { byte } => control(core, byte),
+        Action::C1Control { byte } => c1_control(core, byte),
+        Action::EscapeSequence {
+            first,
+            second,
+            last,
+        } => escape(core, first, second, last),
+        Action::ControlSequence {
+            mark,
+            first,
+            second,
+            last,
+        } => {
+            let params = core.parser.params;
+            sequence(core, params, mark, first, second, last)
+        }
+    }
+}
+
+// What an action does.
+pub fn execute(core: Core, action: Action) -> Decision
+    requires { ⌜ Bounds core ⌝ }
+    ensures { λ r. ⌜ r ≡ decisions.executed core action ⌝ }
+{
+    let clears = clears_wrap(core, action);
+    settle(clears, effect(core, action))
+}
+
+// A byte that prints in ground.
+pub fn is_graphic(byte: u8) -> bool
+    ensures { λ r. ⌜ r ≡ (leb 0x20 byte && not (parsing.between 0x80 byte 0x9F)) ⌝ }
+{
+    (0x20 <= byte) & !between(0x80, byte, 0x9F)
+}
+
+// The parser takes the byte first.
+fn decode_and_execute(mut core: Core, byte: u8) -> Decision
+    requires { ⌜ Bounds core ⌝ }
+    ensures { λ r. ⌜ r ≡ decisions.decided core byte ⌝ }
+{
+    let parser = core.parser;
+    let decoded = parser.decode(byte);
+    let next = decoded.parser;
+    let action = decoded.action;
+    core.parser = next;
+    execute(core, action)
+}
+
+// What a byte does. A graphic character in ground leaves the parser, and goes the short way.
+pub fn decide(core: Core, byte: u8) -> Decision
+    requires { ⌜ Bounds core ⌝ }
+    ensures { λ r. ⌜ r ≡ decisions.decided core byte ⌝ }
+{
+    let parser = core.parser;
+    let phase = parser.phase;
+    match phase {
+        Phase::Ground => {
+            if is_graphic(byte) {
+                return print(core, byte);
+            }
+            decode_and_execute(core, byte)
+        }
+        _ => decode_and_execute(core, byte),
+    }
+}

@@ -1,0 +1,111 @@
+// Control sequences that erase. Margins don't matter.
+use crate::core::Core;
+use crate::core::Decision;
+use crate::effects::only;
+use crate::effects::quiet;
+use crate::numbers::at_most;
+use crate::numbers::pick_wide;
+use crate::params::Params;
+use cells::Edit;
+ghost use mathlib.Core.Path.{_≡_};
+ghost use Rattle.vt.specs.Bounds.{Bounds};
+ghost use Rattle.vt.specs.Params.{param};
+ghost use Rattle.vt.specs.Sequences as sequences;
+
+// The cells from `base` to `end` that a selector names become blank: 0 from the cursor's on, 1 up to
+// the cursor's, 2 all.
+fn erase(core: Core, selector: u16, base: u16, end: u16) -> Decision
+    requires { ⌜ Bounds core ⌝ }
+    ensures { λ r. ⌜ r ≡ sequences.erased core selector base end sequences.toBlank ⌝ }
+{
+    if 2 < selector {
+        return quiet(core);
+    }
+    let cursor = core.cursor;
+    let at = cursor.offset();
+    let from = pick_wide(selector == 0, at, base);
+    let to = pick_wide(selector == 1, at + 1, end);
+    only(
+        core,
+        Edit::Fill {
+            from,
+            to,
+            word: 0x20,
+        },
+    )
+}
+
+// The same, but protected cells stay, and the others keep their flags.
+fn erase_selectively(core: Core, selector: u16, base: u16, end: u16) -> Decision
+    requires { ⌜ Bounds core ⌝ }
+    ensures { λ r. ⌜ r ≡ sequences.erased core selector base end sequences.toSpace ⌝ }
+{
+    if 2 < selector {
+        return quiet(core);
+    }
+    let cursor = core.cursor;
+    let at = cursor.offset();
+    let from = pick_wide(selector == 0, at, base);
+    let to = pick_wide(selector == 1, at + 1, end);
+    only(core, Edit::SelectiveErase { from, to })
+}
+
+// How many cells stand before the cursor's row.
+fn row_start(core: Core) -> u16
+    requires { ⌜ Bounds core ⌝ }
+    ensures { λ r. ⌜ r ≡ sequences.rowStart core ⌝ }
+{
+    80 * (core.cursor.row as u16 - 1)
+}
+
+// ED.
+pub fn erase_in_display(core: Core, params: Params) -> Decision
+    requires { ⌜ Bounds core ⌝ }
+    ensures { λ r. ⌜ r ≡ sequences.inPage core (param params 0) sequences.toBlank ⌝ }
+{
+    erase(core, params.get(0), 0, 80 * (core.rows as u16))
+}
+
+// EL.
+pub fn erase_in_line(core: Core, params: Params) -> Decision
+    requires { ⌜ Bounds core ⌝ }
+    ensures { λ r. ⌜ r ≡ sequences.inRow core (param params 0) sequences.toBlank ⌝ }
+{
+    let base = row_start(core);
+    erase(core, params.get(0), base, base + 80)
+}
+
+// DECSED.
+pub fn selective_erase_in_display(core: Core, params: Params) -> Decision
+    requires { ⌜ Bounds core ⌝ }
+    ensures { λ r. ⌜ r ≡ sequences.inPage core (param params 0) sequences.toSpace ⌝ }
+{
+    erase_selectively(core, params.get(0), 0, 80 * (core.rows as u16))
+}
+
+// DECSEL.
+pub fn selective_erase_in_line(core: Core, params: Params) -> Decision
+    requires { ⌜ Bounds core ⌝ }
+    ensures { λ r. ⌜ r ≡ sequences.inRow core (param params 0) sequences.toSpace ⌝ }
+{
+    let base = row_start(core);
+    erase_selectively(core, params.get(0), base, base + 80)
+}
+
+// ECH: n cells in the row.
+pub fn erase_characters(core: Core, params: Params) -> Decision
+    requires { ⌜ Bounds core ⌝ }
+    ensures { λ r. ⌜ r ≡ sequences.eraseCharacters core params ⌝ }
+{
+    let cursor = core.cursor;
+    let from = cursor.offset();
+    let count = at_most(params.n(), 81 - cursor.column);
+    only(
+        core,
+        Edit::Fill {
+            from,
+            to: from + count as u16,
+            word: 0x20,
+        },
+    )
+}

@@ -1,0 +1,204 @@
+// Escape sequences. An intermediate that is not there is 0.
+use crate::charsets::Register;
+use crate::controls::into_gl;
+use crate::core::Core;
+use crate::core::Decision;
+use crate::core::Margins;
+use crate::core::Saved;
+use crate::effects::only;
+use crate::effects::quiet;
+use crate::fresh::fresh_core;
+use crate::fresh::fresh_cursor;
+use crate::numbers::pick;
+use cells::CharSet;
+use cells::Edit;
+ghost use mathlib.Core.Path.{_≡_};
+ghost use Rattle.vt.specs.Escapes as escapes;
+
+// ---- ESC 7 and ESC 8
+
+// DECSC.
+fn save_cursor(mut core: Core) -> Decision
+    ensures { λ r. ⌜ r ≡ escapes.saveCursor core ⌝ }
+{
+    let cursor = core.cursor;
+    let rendition = core.rendition;
+    let sets = core.sets;
+    let saved = Saved {
+        cursor,
+        rendition,
+        origin: core.modes.origin,
+        sets,
+    };
+    core.saved = saved;
+    quiet(core)
+}
+
+// DECRC: the row is held to T and B if origin is then on.
+fn restore_cursor(mut core: Core) -> Decision
+    ensures { λ r. ⌜ r ≡ escapes.restoreCursor core ⌝ }
+{
+    let saved = core.saved;
+    let cursor = saved.cursor;
+    let rendition = saved.rendition;
+    let sets = saved.sets;
+    let top = pick(saved.origin, core.margins.top, 1);
+    let bottom = pick(saved.origin, core.margins.bottom, core.rows);
+    core.sets = sets;
+    core.rendition = rendition;
+    core.modes.origin = saved.origin;
+    core.cursor = cursor.restore(top, bottom, core.modes.autowrap);
+    quiet(core)
+}
+
+// ---- ESC # 8 and ESC c
+
+// DECALN: every cell plain E, margins full, cursor 1,1.
+fn align_screen(mut core: Core) -> Decision
+    ensures { λ r. ⌜ r ≡ escapes.alignScreen core ⌝ }
+{
+    let rows = core.rows;
+    let margins = Margins {
+        top: 1,
+        bottom: rows,
+    };
+    core.margins = margins;
+    core.cursor = fresh_cursor();
+    only(
+        core,
+        Edit::Fill {
+            from: 0,
+            to: 80 * (rows as u16),
+            word: 0x45,
+        },
+    )
+}
+
+// RIS: fresh, with the same R.
+fn reset(core: Core) -> Decision
+    ensures { λ r. ⌜ r ≡ escapes.reset core ⌝ }
+{
+    let rows = core.rows;
+    only(
+        fresh_core(rows),
+        Edit::Fill {
+            from: 0,
+            to: 80 * (rows as u16),
+            word: 0x20,
+        },
+    )
+}
+
+// ---- reply width and sets
+
+// S7C1T, S8C1T.
+fn with_eightbit(mut core: Core, on: bool) -> Decision
+    ensures { λ r. ⌜ r ≡ escapes.withEightbit core on ⌝ }
+{
+    core.modes.eightbit = on;
+    quiet(core)
+}
+
+// The locking shifts of GR.
+fn into_gr(mut core: Core, register: Register) -> Decision
+    ensures { λ r. ⌜ r ≡ escapes.intoGr core register ⌝ }
+{
+    let sets = core.sets;
+    core.sets = sets.into_gr(register);
+    quiet(core)
+}
+
+// SCS.
+fn designate(mut core: Core, register: Register, set: CharSet) -> Decision
+    ensures { λ r. ⌜ r ≡ escapes.designate core register set ⌝ }
+{
+    let sets = core.sets;
+    core.sets = sets.designate(register, set);
+    quiet(core)
+}
+
+// B, 0 and %5 designate 94-sign sets.
+fn designate_94(core: Core, register: Register, second: u8, last: u8) -> Decision
+    ensures { λ r. ⌜ r ≡ escapes.designate94 core register second last ⌝ }
+{
+    if (second == 0) & (last == 0x42) {
+        return designate(core, register, CharSet::Ascii);
+    }
+    if (second == 0) & (last == 0x30) {
+        return designate(core, register, CharSet::SpecialGraphics);
+    }
+    if (second == 0x25) & (last == 0x35) {
+        return designate(core, register, CharSet::Supplemental);
+    }
+    quiet(core)
+}
+
+// A designates the 96-sign set.
+fn designate_96(core: Core, register: Register, second: u8, last: u8) -> Decision
+    ensures { λ r. ⌜ r ≡ escapes.designate96 core register second last ⌝ }
+{
+    if (second == 0) & (last == 0x41) {
+        return designate(core, register, CharSet::Latin1);
+    }
+    quiet(core)
+}
+
+// ---- the sequences
+
+// With no intermediate.
+fn plain_escape(core: Core, last: u8) -> Decision
+    ensures { λ r. ⌜ r ≡ escapes.plainEscape core last ⌝ }
+{
+    match last {
+        0x37 => save_cursor(core),
+        0x38 => restore_cursor(core),
+        0x63 => reset(core),
+        0x6E => into_gl(core, Register::G2),
+        0x6F => into_gl(core, Register::G3),
+        0x7E => into_gr(core, Register::G1),
+        0x7D => into_gr(core, Register::G2),
+        0x7C => into_gr(core, Register::G3),
+        _ => quiet(core),
+    }
+}
+
+// ESC sp F, ESC sp G.
+fn space_escape(core: Core, second: u8, last: u8) -> Decision
+    ensures { λ r. ⌜ r ≡ escapes.spaceEscape core second last ⌝ }
+{
+    if (second == 0) & (last == 0x46) {
+        return with_eightbit(core, false);
+    }
+    if (second == 0) & (last == 0x47) {
+        return with_eightbit(core, true);
+    }
+    quiet(core)
+}
+
+// ESC # 8.
+fn hash_escape(core: Core, second: u8, last: u8) -> Decision
+    ensures { λ r. ⌜ r ≡ escapes.hashEscape core second last ⌝ }
+{
+    if (second == 0) & (last == 0x38) {
+        return align_screen(core);
+    }
+    quiet(core)
+}
+
+pub fn escape(core: Core, first: u8, second: u8, last: u8) -> Decision
+    ensures { λ r. ⌜ r ≡ escapes.escaped core first second last ⌝ }
+{
+    match first {
+        0 => plain_escape(core, last),
+        0x20 => space_escape(core, second, last),
+        0x23 => hash_escape(core, second, last),
+        0x28 => designate_94(core, Register::G0, second, last),
+        0x29 => designate_94(core, Register::G1, second, last),
+        0x2A => designate_94(core, Register::G2, second, last),
+        0x2B => designate_94(core, Register::G3, second, last),
+        0x2D => designate_96(core, Register::G1, second, last),
+        0x2E => designate_96(core, Register::G2, second, last),
+        0x2F => designate_96(core, Register::G3, second, last),
+        _ => quiet(core),
+    }
+}
