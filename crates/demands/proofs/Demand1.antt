@@ -25,13 +25,13 @@ use Rattle.terminal.specs.Answers.{number, refusal}
 use Rattle.terminal.specs.Steps.{Screen, stepped, ran, ranCore, sent, readable}
 use Rattle.terminal.specs.Whole.{wholeState, WholeState}
 use Rattle.terminal.specs.Start.{Start, fresh, blankPage, started}
-use Rattle.terminal.specs.Feed.{Feed, readCount, screen, feedFirst, feedRefused, fed}
+use Rattle.terminal.specs.Feed.{Feed, readCount, fitting, screen, feedFirst, feedRefused, fed}
 use Rattle.terminal.specs.Ask.{asked, askDone, askRefused}
 use Rattle.terminal.specs.declared.Asked.{Asked}
 use Rattle.terminal.specs.declared.CellRead.{CellRead}
 use Rattle.terminal.specs.Read.{onPage, cellRead}
 use Rattle.terminal.proofs.StepLaws.{Sane, sane-step, sane-ran, ran-core, sent-fits, readable-most, readable-fits}
-use Rattle.terminal.proofs.CallLaws.{state-facts, state-tested, sane-screen, fitting, fed-broken, fed-size, fed-run, fed-cases, Taken, fed-taken, fed-left, asked-done, asked-broken, asked-whole, started-as, read-as}
+use Rattle.terminal.proofs.CallLaws.{state-facts, state-tested, sane-screen, fed-broken, fed-size, fed-run, fed-cases, Taken, fed-taken, fed-left, asked-done, asked-broken, asked-whole, started-as, read-as}
 use Rattle.demands.specs.Statements.{Sized, stateOf, FreshWhole, KeptWhole, StepWhole, StartWhole, FeedWhole, AskWhole, RepliesShort, NextTooLong, FeedAnswers, FeedExact, Untouched, FeedRefused, DoneUpTo, FeedDoes, RestKept, ReplyKept, Progress, StartAnswers, StartExact, AskAnswers, AskExact, ReadAnswers, ReadExact, EveryEdit}
 
 -- ---- S2

@@ -14,9 +14,9 @@ use Rattle.terminal.specs.declared.Answer.the-variants.{Done, NoRoom}
 use Rattle.terminal.specs.Answers.{number}
 use Rattle.terminal.specs.Steps.{Screen, ran, ranCore, sent}
 use Rattle.terminal.specs.Whole.{wholeState}
-use Rattle.terminal.specs.Feed.{Feed, readCount, screen, feedFirst, fed}
+use Rattle.terminal.specs.Feed.{Feed, readCount, fitting, screen, feedFirst, fed}
 use Rattle.terminal.proofs.StepLaws.{ran-append, ran-core, sent-append, reads-all}
-use Rattle.terminal.proofs.CallLaws.{fitting, fed-run}
+use Rattle.terminal.proofs.CallLaws.{fed-run}
 use Rattle.demands.specs.Statements.{Sized, stateOf, Part, sentBy, Several, several, AllDone, inputOf, SameAtOnce, Demand2}
 use Rattle.demands.proofs.Demand1.{feed-is-exact, reply-rest-kept}
 

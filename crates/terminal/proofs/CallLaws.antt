@@ -15,7 +15,7 @@ use Rattle.terminal.specs.declared.Answer.the-variants.{Done, Broken, Wr
 use Rattle.terminal.specs.Answers.{number, refusal}
 use Rattle.terminal.specs.Whole.{wholeState, WholeState}
 use Rattle.terminal.specs.Start.{startAnswer, startGives, started}
-use Rattle.terminal.specs.Feed.{Feed, readCount, screen, feedFirst, feedRefused, feedGives, fed}
+use Rattle.terminal.specs.Feed.{Feed, readCount, fitting, screen, feedFirst, feedRefused, feedGives, fed}
 use Rattle.terminal.specs.Ask.{askDone, askRefused, asked}
 use Rattle.terminal.specs.Read.{readAnswer, readWord, cellRead}
 use Rattle.terminal.proofs.StepLaws.{Sane}
@@ -39,10 +39,6 @@ sane-screen s p e h =
     record { whole = w .core; rows = refl; size = h; few = w .changed }
 
 -- ---- feeding
-
--- the answer of a feeding that is not refused
-abbrev pub fitting : State → List ℕ → List ℕ → Answer
-fitting s i o = cond (ltb (readCount s i o) (length i)) NoRoom Done
 
 module _ (s : State) (p i o : List ℕ) where
   pub fed-broken : wholeState s ≡ false → fed s p i o ≡ feedRefused Broken s p o

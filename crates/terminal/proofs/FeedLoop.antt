@@ -28,10 +28,9 @@ use Rattle.terminal.specs.declared.State.{State}
 use Rattle.terminal.specs.declared.Answer.{Answer}
 use Rattle.terminal.specs.declared.Answer.the-variants.{Done, NoRoom}
 use Rattle.terminal.specs.Steps.{Screen, Marked, edited, stepped, ran, ranCore, sent, readable}
-use Rattle.terminal.specs.Feed.{readCount, screen, feedFirst}
+use Rattle.terminal.specs.Feed.{readCount, fitting, screen, feedFirst}
 use Rattle.terminal.specs.Ready.{Ready, FedAs}
 use Rattle.terminal.proofs.StepLaws.{ran-append, ran-core, sent-append, readable-fits, readable-full, edited-page, edited-changed, Sane, sane-step}
-use Rattle.terminal.proofs.CallLaws.{fitting}
 
 -- ---- one byte
 

@@ -21,11 +21,13 @@ pub record Feed : Type 0 where
 abbrev pub readCount : State → List ℕ → List ℕ → ℕ
 readCount s i o = readable (length o) (s .core) i
 
+-- the answer of a feeding that is not refused
+abbrev pub fitting : State → List ℕ → List ℕ → Answer
+fitting s i o = cond (ltb (readCount s i o) (length i)) NoRoom Done
+
 -- given exactly when
 abbrev pub feedAnswer : State → List ℕ → List ℕ → List ℕ → Answer
-feedAnswer s p i o =
-    let fits = cond (ltb (readCount s i o) (length i)) NoRoom Done in
-    cond (wholeState s) (cond (rightSize (s .core .rows) p) fits WrongSize) Broken
+feedAnswer s p i o = cond (wholeState s) (cond (rightSize (s .core .rows) p) (fitting s i o) WrongSize) Broken
 
 abbrev pub screen : State → List ℕ → Screen
 screen s p = record { core = s .core; page = p; changed = s .changed }

@@ -1,6 +1,10 @@
 // The terminal's calls: start, feed, ask for the changed rows, read a cell.
 use vt::core::Core;
 
+pub mod calls;
+pub mod run;
+pub mod whole;
+
 // The changed rows are bits of one number, row 1 the lowest.
 pub struct State {
     pub core: Core,
@@ -10,6 +14,7 @@ pub struct State {
 // What a call answers. Document 01's numbers are in specs/Answers.antt.
 pub enum Answer {
     Done,
+    // The state is not whole, or, at a start, there is no page of so many rows.
     Broken,
     WrongSize,
     NoRoom,

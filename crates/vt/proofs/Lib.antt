@@ -9,7 +9,6 @@ pub mod SoundSequences
 pub mod SoundParser
 pub mod Sound
 pub mod ReplyLength
-pub mod BoolLaws
 pub mod CellLaws
 pub mod Choice
 pub mod ParamLaws

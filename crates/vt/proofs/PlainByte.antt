@@ -1,7 +1,6 @@
--- A graphic character in ground: the parser stays as it is, the character is printed, and nothing is sent.
+-- A graphic character in ground: the parser stays as it is, the character is printed, and no reply is drawn.
 use mathlib.Core.Path.{_≡_, refl, sym, ap, _∙_}
 use mathlib.Core.Bool.{Bool, true, false, not, _&&_}
-use mathlib.Core.List.{[]}
 use Prim.Native.Nat.{ℕ}
 use native.Mathlib.Omega.{arith}
 use lib.Dec.{leb}
@@ -18,9 +17,10 @@ use Rattle.vt.specs.Parser.{between, to, transition, inPhase, kept, aske
 use Rattle.vt.specs.Printing.{printed}
 use Rattle.vt.specs.WrapDue.{clearsWrap}
 use Rattle.vt.specs.Effects.{withParser}
-use Rattle.vt.specs.Replies.{replyTo, replyBytes}
-use Rattle.vt.specs.Decide.{executed, decided, sends}
-use Rattle.vt.proofs.BoolLaws.{head-true, tail-true}
+use Rattle.vt.specs.declared.reply.Reply.the-variants.{Silent}
+use Rattle.vt.specs.Replies.{replyTo}
+use Rattle.vt.specs.Decide.{executed, decided}
+use Rattle.vt.proofs.Tests.{and-left, and-right}
 
 -- 20 to 7F and A0 to FF
 abbrev pub graphic : ℕ → Bool
@@ -29,8 +29,8 @@ graphic b = leb 0x20 b && not (between 0x80 b 0x9F)
 ground-rule : (b : ℕ) → graphic b ≡ true → transition Ground b ≡ to Ground Print
 unfolding transition
 ground-rule b h =
-    let l = leb-true 0x20 b (head-true (leb 0x20 b) (not (between 0x80 b 0x9F)) h) in
-    let n = not-true (between 0x80 b 0x9F) (tail-true (leb 0x20 b) (not (between 0x80 b 0x9F)) h) in
+    let l = leb-true 0x20 b (and-left (leb 0x20 b) (not (between 0x80 b 0x9F)) h) in
+    let n = not-true (between 0x80 b 0x9F) (and-right (leb 0x20 b) (not (between 0x80 b 0x9F)) h) in
     rw (ne-eqb b 0x18 (omega arith), ne-eqb b 0x1A (omega arith), ne-eqb b 0x1B (omega arith), n, le-ltb b 0x20 l)
 
 pub plain-decode : (s : Parser) (b : ℕ) → s .phase ≡ Ground → graphic b ≡ true → decode s b ≡ record { parser = s; action = Character b }
@@ -44,6 +44,6 @@ pub plain-decides : (c : Core) (b : ℕ) → c .parser .phase ≡ Ground → gra
 unfolding decided executed clearsWrap
 plain-decides c b e h = sym (ap (λ (d : Decoded). executed (withParser c (d .parser)) (d .action)) (plain-decode (c .parser) b e h))
 
-pub plain-sends : (c : Core) (b : ℕ) → c .parser .phase ≡ Ground → graphic b ≡ true → sends c b ≡ []
-unfolding sends replyTo replyBytes
-plain-sends c b e h = ap (λ (d : Decoded). replyBytes (c .modes .eightbit) (replyTo c (d .action))) (plain-decode (c .parser) b e h)
+pub plain-silent : (c : Core) (b : ℕ) → c .parser .phase ≡ Ground → graphic b ≡ true → Silent ≡ replyTo c (decode (c .parser) b .action)
+unfolding replyTo
+plain-silent c b e h = sym (ap (λ (d : Decoded). replyTo c (d .action)) (plain-decode (c .parser) b e h))

@@ -1,6 +1,6 @@
 -- Boolean tests: what an `&&`, a `||`, an implication or a `cond` tells.
 use mathlib.Core.Path.{_≡_, refl, sym}
-use mathlib.Core.Bool.{Bool, true, false, cond, not, _&&_, _||_, false≢true}
+use mathlib.Core.Bool.{Bool, true, false, cond, not, _&&_, _||_, false≢true, and-assoc, and-true}
 use mathlib.Core.List.{List, [], _∷_}
 use mathlib.Core.Logic.{_⊎_, inl, inr, ⊎-elim}
 use Prim.Native.Nat.{ℕ, zero, suc, _≤_}
@@ -32,6 +32,10 @@ or-left false b e = refl
 pub or-right : (a b : Bool) → (a || b) ≡ false → b ≡ false
 or-right true b e = absurd (false≢true (sym e))
 or-right false b e = e
+
+-- nine tests, as the code has them and as the definition has them
+pub nine : (a b c d e f g h i : Bool) → a && b && c && d && e && f && g && h && i ≡ all (a ∷ b ∷ c ∷ d ∷ e ∷ f ∷ g ∷ h ∷ i ∷ [])
+nine a b c d e f g h i = simp (and-assoc, and-true)
 
 -- each of the tests holds
 pub all-at : (ts : List Bool) → all ts ≡ true → (k : ℕ) → getD ts k true ≡ true

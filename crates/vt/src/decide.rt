@@ -9,15 +9,19 @@ use crate::parser::Action;
 use crate::parser::Phase;
 use crate::printing::print;
 use crate::printing::substitute;
+use crate::reply::Reply;
+use crate::reply::reply_to;
 use crate::rules::between;
 use crate::sequences::sequence;
 use crate::wrap::clears_wrap;
 use crate::wrap::settle;
 ghost use mathlib.Core.Path.{_≡_};
 ghost use mathlib.Core.Bool.{Bool, not, _&&_};
+ghost use Prim.Native.Nat.{_<_};
 ghost use lib.Dec.{leb};
 ghost use Rattle.vt.specs.Bounds.{Bounds};
 ghost use Rattle.vt.specs.Parser as parsing;
+ghost use Rattle.vt.specs.Replies as replies;
 ghost use Rattle.vt.specs.Decide as decisions;
 
 // What an action does, but for wrap due.
@@ -92,5 +96,33 @@ pub fn decide(core: Core, byte: u8) -> Decision
             decode_and_execute(core, byte)
         }
         _ => decode_and_execute(core, byte),
+    }
+}
+
+fn decode_and_reply(core: Core, byte: u8) -> Reply
+    requires { ⌜ core .cursor .row < 255 ⌝ }
+    ensures { λ r. ⌜ r ≡ replies.replyTo core (parsing.decode (core .parser) byte .action) ⌝ }
+{
+    let parser = core.parser;
+    let decoded = parser.decode(byte);
+    let action = decoded.action;
+    reply_to(core, action)
+}
+
+// The reply that a byte draws. A graphic character in ground draws none.
+pub fn reply_for(core: Core, byte: u8) -> Reply
+    requires { ⌜ core .cursor .row < 255 ⌝ }
+    ensures { λ r. ⌜ r ≡ replies.replyTo core (parsing.decode (core .parser) byte .action) ⌝ }
+{
+    let parser = core.parser;
+    let phase = parser.phase;
+    match phase {
+        Phase::Ground => {
+            if is_graphic(byte) {
+                return Reply::Silent;
+            }
+            decode_and_reply(core, byte)
+        }
+        _ => decode_and_reply(core, byte),
     }
 }

@@ -4,7 +4,7 @@ use mathlib.Core.Bool.{_&&_}
 use lib.Dec.{eqb, leb, ltb}
 use Rattle.vt.specs.Parser.{between}
 use Rattle.vt.specs.Whole.{sized, implies}
-use Rattle.vt.proofs.BoolLaws.{nine}
+use Rattle.vt.proofs.Tests.{nine}
 use Rattle.vt.proofs.whole.is_whole_screen.Statement.{statement}
 use Rattle.vt.proofs.whole.is_whole_screen.Tie as tie
 

@@ -1,0 +1,131 @@
+// What the gateway calls. None of these asks that anything was checked before.
+use crate::Answer;
+use crate::Asked;
+use crate::CellRead;
+use crate::Fed;
+use crate::Started;
+use crate::State;
+use crate::run::run;
+use crate::whole::is_whole;
+use cells::edits::clear;
+use cells::marks::count;
+use vt::fresh::fresh_core;
+ghost use mathlib.Core.Path.{_≡_};
+ghost use Rattle.vt.specs.Whole.{sized};
+ghost use Rattle.terminal.specs.Start as starting;
+ghost use Rattle.terminal.specs.Feed.{fed};
+ghost use Rattle.terminal.specs.Ask.{asked};
+ghost use Rattle.terminal.specs.Read.{cellRead};
+ghost use Rattle.terminal.specs.Ready.{StartedAs, FedAs};
+
+fn fresh(rows: u8) -> State
+    ensures { λ r. ⌜ r ≡ starting.fresh rows ⌝ }
+{
+    State {
+        core: fresh_core(rows),
+        changed: 0,
+    }
+}
+
+// Starts a page of 24, 36 or 48 rows: every cell blank, the state fresh.
+pub fn start(rows: u8, page: &mut [u16]) -> Started
+    ensures { λ r. ⌜ StartedAs (starting.started rows (now (page .entry))) r (now (page .exit)) ⌝ }
+{
+    if !((rows == 24) | (rows == 36) | (rows == 48)) {
+        return Started {
+            answer: Answer::Broken,
+            state: fresh(24),
+        };
+    }
+    if page.len() != 80 * (rows as usize) {
+        return Started {
+            answer: Answer::WrongSize,
+            state: fresh(24),
+        };
+    }
+    clear(page);
+    Started {
+        answer: Answer::Done,
+        state: fresh(rows),
+    }
+}
+
+// Feeds bytes from the modem, until the input ends or a reply does not fit.
+pub fn feed(state: State, page: &mut [u16], input: &[u8], reply: &mut [u8]) -> Fed
+    ensures { λ r. ⌜ FedAs (fed state (now (page .entry)) (now (input .entry)) (now (reply .entry))) r (now (page .exit)) (now (reply .exit)) ⌝ }
+{
+    if !is_whole(state) {
+        return Fed {
+            answer: Answer::Broken,
+            read: 0,
+            replied: 0,
+            state,
+        };
+    }
+    let core = state.core;
+    let rows = core.rows;
+    if page.len() != 80 * (rows as usize) {
+        return Fed {
+            answer: Answer::WrongSize,
+            read: 0,
+            replied: 0,
+            state,
+        };
+    }
+    run(state, page, input, reply)
+}
+
+// Asks for the changed rows, and empties the set.
+pub fn ask(state: State) -> Asked
+    ensures { λ r. ⌜ r ≡ asked state ⌝ }
+{
+    if !is_whole(state) {
+        return Asked {
+            answer: Answer::Broken,
+            rows: 0,
+            count: 0,
+            state,
+        };
+    }
+    let core = state.core;
+    let changed = state.changed;
+    let rows = core.rows;
+    Asked {
+        answer: Answer::Done,
+        rows: changed,
+        count: count(changed, rows),
+        state: State { core, changed: 0 },
+    }
+}
+
+// Reads a cell by its row and column, counted from 1.
+pub fn read(state: State, page: &[u16], row: usize, column: usize) -> CellRead
+    ensures { λ r. ⌜ r ≡ cellRead state (now (page .entry)) row column ⌝ }
+{
+    if !is_whole(state) {
+        return CellRead {
+            answer: Answer::Broken,
+            word: 0x20,
+        };
+    }
+    let core = state.core;
+    let rows = core.rows as usize;
+    if page.len() != 80 * rows {
+        return CellRead {
+            answer: Answer::WrongSize,
+            word: 0x20,
+        };
+    }
+    if (1 <= row) & (row <= rows) & ((1 <= column) & (column <= 80)) {
+        let at = 80 * (row - 1) + (column - 1);
+        CellRead {
+            answer: Answer::Done,
+            word: page[at],
+        }
+    } else {
+        CellRead {
+            answer: Answer::OffPage,
+            word: 0x20,
+        }
+    }
+}

@@ -1,0 +1,17 @@
+// Whole states, and pages of their size.
+use crate::State;
+ghost use mathlib.Core.Path.{_≡_};
+ghost use mathlib.Core.Bool.{Bool, true, false};
+ghost use Rattle.terminal.specs.Whole.{wholeState};
+
+pub fn is_whole(state: State) -> bool
+    ensures { λ r. ⌜ r ≡ wholeState state ⌝ }
+{
+    let core = state.core;
+    if vt::whole::is_whole(core) {
+        let rows = core.rows;
+        state.changed < 1u64 << rows
+    } else {
+        false
+    }
+}
