@@ -55,6 +55,6 @@ changed-more n (suc m) p q h l =
     ⊎-elim
     (λ (e : n ≡ suc m). ap (λ (i : ℕ). bitsOf i (changed p q)) (sym e))
     (λ (b : n < suc m).
-      ap (λ (t : Bool). bit t * 2 ^ m + bitsOf m (changed p q)) (changed-past p q m (omega arith))
-      ∙ rw (zero-mul, zero-add) (changed-more n m p q (omega arith) l))
+    ap (λ (t : Bool). bit t * 2 ^ m + bitsOf m (changed p q)) (changed-past p q m (omega arith))
+    ∙ rw (zero-mul, zero-add) (changed-more n m p q (omega arith) l))
     (eq-or-lt-of-le h)

@@ -1,4 +1,5 @@
 pub mod Lists
+pub mod WordLaws
 pub mod BitLaws
 pub mod Parts
 pub mod RowLaws

@@ -39,10 +39,10 @@ pub part-of-row : (p : List ℕ) (k a n : ℕ) → a + n ≤ 80 → take n (drop
 part-of-row p k a n h =
     ext-getD 0 (take n (drop a (row p k))) (take n (drop (80 * k + a) p)) (simp (length-take, length-drop) (omega arith))
     (λ c i.
-      let j = simp length-take at i in
-      let e : 80 * k + (a + c) ≡ 80 * k + a + c = omega arith in
-      rw (getD-take n (drop a (row p k)) c 0 (omega arith), getD-take n (drop (80 * k + a) p) c 0 (omega arith), getD-drop a (row p k) c 0, getD-drop (80 * k + a) p c 0)
-      (cell-of-row p k (a + c) (omega arith) ∙ ap (λ (m : ℕ). getD p m 0) e))
+    let j = simp length-take at i in
+    let e : 80 * k + (a + c) ≡ 80 * k + a + c = omega arith in
+    rw (getD-take n (drop a (row p k)) c 0 (omega arith), getD-take n (drop (80 * k + a) p) c 0 (omega arith), getD-drop a (row p k) c 0, getD-drop (80 * k + a) p c 0)
+    (cell-of-row p k (a + c) (omega arith) ∙ ap (λ (m : ℕ). getD p m 0) e))
 
 module _ (p : List ℕ) (k a : ℕ) (s : List ℕ) (n : ℕ) (h : a + n ≤ 80) (hp : 80 * k + 80 ≤ length p) (hs : n ≤ length s) where
   kept-long : length (paste p (80 * k + a) s n) ≡ length p
@@ -63,23 +63,23 @@ module _ (p : List ℕ) (k a : ℕ) (s : List ℕ) (n : ℕ) (h : a + n ≤ 80) 
       let hq : 80 * k + a + n ≤ length p = omega arith in
       ext-getD 0 (row q k) (paste x a s n) (lq ∙ sym lx ∙ sym (length-paste x a s n hx hs))
       (λ c i.
-        let c80 : c < 80 = omega arith in
-        let out : (c < a) ⊎ (a + n ≤ c) → getD q (80 * k + c) 0 ≡ getD (paste x a s n) c 0 =
-            λ o. paste-outside p (80 * k + a) s n hq hs (80 * k + c) (⊎-elim (λ (b : c < a). inl (omega arith)) (λ (b : a + n ≤ c). inr (omega arith)) o)
-            ∙ sym (cell-of-row p k c c80) ∙ sym (paste-outside x a s n hx hs c o) in
-        cell-of-row q k c c80
-        ∙ ⊎-elim
-          (λ (b : c < a). out (inl b))
-          (λ (b : a ≤ c). ⊎-elim
-            (λ (d : c < a + n).
-              let e : 80 * k + c ≡ 80 * k + a + (c - a) = omega arith in
-              let e' : a + (c - a) ≡ c = omega arith in
-              let m : c - a < n = omega arith in
-              ap (λ (i : ℕ). getD q i 0) e ∙ paste-inside p (80 * k + a) s n hq hs (c - a) m
-              ∙ sym (paste-inside x a s n hx hs (c - a) m) ∙ ap (λ (i : ℕ). getD (paste x a s n) i 0) e')
-            (λ (d : a + n ≤ c). out (inr d))
-            (split-lt c (a + n)))
-          (split-lt c a))
+      let c80 : c < 80 = omega arith in
+      let out : (c < a) ⊎ (a + n ≤ c) → getD q (80 * k + c) 0 ≡ getD (paste x a s n) c 0 =
+      λ o. paste-outside p (80 * k + a) s n hq hs (80 * k + c) (⊎-elim (λ (b : c < a). inl (omega arith)) (λ (b : a + n ≤ c). inr (omega arith)) o)
+      ∙ sym (cell-of-row p k c c80) ∙ sym (paste-outside x a s n hx hs c o) in
+      cell-of-row q k c c80
+      ∙ ⊎-elim
+      (λ (b : c < a). out (inl b))
+      (λ (b : a ≤ c). ⊎-elim
+      (λ (d : c < a + n).
+      let e : 80 * k + c ≡ 80 * k + a + (c - a) = omega arith in
+      let e' : a + (c - a) ≡ c = omega arith in
+      let m : c - a < n = omega arith in
+      ap (λ (i : ℕ). getD q i 0) e ∙ paste-inside p (80 * k + a) s n hq hs (c - a) m
+      ∙ sym (paste-inside x a s n hx hs (c - a) m) ∙ ap (λ (i : ℕ). getD (paste x a s n) i 0) e')
+      (λ (d : a + n ≤ c). out (inr d))
+      (split-lt c (a + n)))
+      (split-lt c a))
 
   -- so that row is made anew, and its bit says whether it differs
   pub redone-part : (q : List ℕ) (flag : Bool) → Pasted p q (80 * k + a) s n flag → k < 64
@@ -96,7 +96,8 @@ module _ (p : List ℕ) (k a : ℕ) (s : List ℕ) (n : ℕ) (h : a + n ≤ 80) 
             (split-eq j k);
         marked = sym (changed-one 64 p q k flag hk
             (ap (differs (row p k)) same ∙ differs-paste (row p k) a s n (omega arith) hs ∙ ap (λ (l : List ℕ). differs l (take n s)) (part-of-row p k a n h) ∙ sym (P .flagged))
-            others) }
+            others);
+      }
 
 -- ---- one change after another
 
@@ -117,9 +118,10 @@ module _ {p q : List ℕ} {done : ℕ → Bool} {g : ℕ → List ℕ} {bits : �
       → (all : ℕ → Bool) (h : ℕ → List ℕ) → ((j : ℕ) → cond (more j) (f j) (cond (done j) (g j) (row p j)) ≡ cond (all j) (h j) (row p j))
       → Redone p r all h (bitOr bits bits')
   redone-join {r} {more} {f} {bits'} S apart all h is = record {
-      long = S .long ∙ R .long;
-      rows = λ j. S .rows j ∙ ap (λ (x : List ℕ). cond (more j) (f j) x) (R .rows j) ∙ is j;
-      marked = ap₂ bitOr (R .marked) (S .marked) ∙ changed-join 64 p q r (λ j l. one-of j (more j) refl) }
+    long = S .long ∙ R .long;
+    rows = λ j. S .rows j ∙ ap (λ (x : List ℕ). cond (more j) (f j) x) (R .rows j) ∙ is j;
+    marked = ap₂ bitOr (R .marked) (S .marked) ∙ changed-join 64 p q r (λ j l. one-of j (more j) refl);
+  }
     where
       one-of : (j : ℕ) (t : Bool) → more j ≡ t → (row p j ≡ row q j) ⊎ (row q j ≡ row r j)
       one-of j true e = inl (sym (redone-old j (apart j e)))
