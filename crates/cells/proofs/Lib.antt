@@ -6,3 +6,4 @@ pub mod RowLaws
 pub mod EditLaws
 pub mod ChangeLaws
 pub mod Redoing
+pub mod Storing

@@ -1,5 +1,6 @@
 // The page: what a cell holds, and the edits that a step makes.
 pub mod marks;
+pub mod segments;
 pub mod words;
 
 // The character sets. The first three have 94 signs, Latin-1 has 96.
