@@ -7,3 +7,5 @@ pub mod EditLaws
 pub mod ChangeLaws
 pub mod Redoing
 pub mod Storing
+pub mod Blocks
+pub mod Beside

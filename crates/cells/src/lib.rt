@@ -1,5 +1,7 @@
 // The page: what a cell holds, and the edits that a step makes.
+pub mod edits;
 pub mod marks;
+pub mod rows;
 pub mod segments;
 pub mod words;
 

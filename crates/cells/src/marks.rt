@@ -5,7 +5,7 @@ ghost use Rattle.cells.specs.Cells.{bit};
 ghost use Rattle.cells.specs.Sets.{hasBit, sizeOf};
 
 // The bit of a row, if it changed.
-pub fn row_bit(row: usize, changed: bool) -> u64
+pub fn row_bit(row: u8, changed: bool) -> u64
     requires { ⌜ row < 64 ⌝ }
     ensures { λ r. ⌜ r ≡ bit changed * 2 ^ row ⌝ }
 {

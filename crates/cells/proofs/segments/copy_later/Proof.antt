@@ -2,11 +2,10 @@
 use mathlib.Core.Path.{_≡_, refl, sym, _∙_}
 use mathlib.Core.Logic.{inl}
 use native.Mathlib.Omega.{arith}
-use lib.ListN.{length-drop}
+use lib.ListN.{length-drop, getD, drop}
 use lib.Seq.{getD-drop}
 use borrow.Author.Needs.{needs}
 use Prim.Native.Nat.{ℕ, _+_, _-_, _≤_}
-use lib.ListN.{getD, drop}
 use Rattle.cells.proofs.Storing.{Stored, stored-none, stored-down, stored-all}
 use Rattle.cells.proofs.segments.copy_later.Statement.{statement}
 use Rattle.cells.proofs.segments.copy_later.Tie as tie

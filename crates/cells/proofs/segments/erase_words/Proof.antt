@@ -2,13 +2,12 @@
 use mathlib.Core.Path.{_≡_, refl, sym, ap, _∙_}
 use mathlib.Core.Logic.{inr}
 use native.Mathlib.Omega.{arith}
-use lib.ListN.{length-drop, length-map}
+use lib.ListN.{length-drop, length-map, getD, drop}
 use lib.Seq.{getD-drop}
 use Rattle.cells.proofs.Lists.{getD-map}
 use borrow.Author.Needs.{needs}
 use mathlib.Core.List.{map}
 use Prim.Native.Nat.{_+_, _-_, _≤_}
-use lib.ListN.{getD, drop}
 use Rattle.cells.specs.Cells.{selectivelyErased}
 use Rattle.cells.proofs.Storing.{Stored, stored-none, stored-up, stored-all}
 use Rattle.cells.proofs.segments.erase_words.Statement.{statement}

@@ -1,10 +1,9 @@
 -- The loop stores a list that repeats the word.
 use mathlib.Core.Path.{refl, sym}
 use native.Mathlib.Omega.{arith}
-use lib.ListN.{length-replicate, getD-replicate}
+use lib.ListN.{length-replicate, getD-replicate, replicate}
 use borrow.Author.Needs.{needs}
 use Prim.Native.Nat.{_-_, _≤_}
-use lib.ListN.{replicate}
 use Rattle.cells.proofs.Storing.{Stored, stored-none, stored-up, stored-all}
 use Rattle.cells.proofs.segments.fill_words.Statement.{statement}
 use Rattle.cells.proofs.segments.fill_words.Tie as tie
