@@ -1,7 +1,11 @@
 pub mod Lists
+pub mod WordLaws
 pub mod BitLaws
 pub mod Parts
 pub mod RowLaws
 pub mod EditLaws
 pub mod ChangeLaws
 pub mod Redoing
+pub mod Storing
+pub mod Blocks
+pub mod Beside

@@ -1,7 +1,7 @@
 -- Laws of lists of words: what a paste puts and what it leaves, and when two lists differ.
 use mathlib.Core.Path.{_≡_, refl, sym, ap, ap₂, _∙_}
 use mathlib.Core.Bool.{Bool, true, false, not, _||_, false≢true, or-false, or-assoc}
-use mathlib.Core.List.{List, [], _∷_, _++_, append-assoc, append-nil}
+use mathlib.Core.List.{List, [], _∷_, _++_, map, append-assoc, append-nil}
 use mathlib.Core.Logic.{_⊎_, inl, inr, ⊎-elim}
 use Prim.Native.Nat.{ℕ, zero, suc, _+_, _-_, _*_, _≤_, _<_}
 use native.Mathlib.Nat.{zero-add, le-of-eq}
@@ -121,3 +121,15 @@ differs-apart xs ys l i ne = go (differs xs ys) refl
     go : (t : Bool) → differs xs ys ≡ t → t ≡ true
     go true e = refl
     go false e = absurd (ne (ap (λ (z : List ℕ). getD z i 0) (differs-none xs ys l e)))
+
+-- ---- a list that is mapped, place by place
+
+pub getD-map : (f : ℕ → ℕ) (l : List ℕ) (i : ℕ) → i < length l → getD (map f l) i 0 ≡ f (getD l i 0)
+getD-map f [] i h = absurd (omega arith)
+getD-map f (x ∷ l) zero h = refl
+getD-map f (x ∷ l) (suc i) h = getD-map f l i (omega arith)
+
+pub take-map : (f : ℕ → ℕ) (n : ℕ) (l : List ℕ) → take n (map f l) ≡ map f (take n l)
+take-map f zero l = refl
+take-map f (suc n) [] = refl
+take-map f (suc n) (x ∷ l) = ap (λ (t : List ℕ). f x ∷ t) (take-map f n l)

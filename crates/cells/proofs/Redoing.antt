@@ -1,7 +1,7 @@
 -- Rows that are made anew, one or many, in any order: by one paste, and by one change after another. Loops upward and downward are the same to these laws.
-use mathlib.Core.Path.{_≡_, refl, sym, ap, ap₂, _∙_}
+use mathlib.Core.Path.{_≡_, refl, sym, ap, ap₂, subst, _∙_}
 use mathlib.Core.Bool.{Bool, true, false, cond, _||_, or-false}
-use mathlib.Core.List.{List, _++_}
+use mathlib.Core.List.{List, _++_, map}
 use mathlib.Core.Logic.{_⊎_, inl, inr, ⊎-elim}
 use Prim.Native.Nat.{ℕ, _+_, _-_, _*_, _^_, _≤_, _<_}
 use native.Mathlib.Omega.{arith}
@@ -14,14 +14,18 @@ use Rattle.cells.specs.Cells.{bit}
 use Rattle.cells.specs.Rows.{row, differs}
 use Rattle.cells.specs.Sets.{bitsOf, changed}
 use Rattle.cells.specs.declared.Edit.{Edit}
-use Rattle.cells.specs.Edits.{after, applied}
-use Rattle.cells.specs.Writes.{Pasted, Redone, Edited}
-use Rattle.cells.proofs.Lists.{split-lt, split-eq, paste-outside, paste-inside, differs-self, differs-append}
+use Rattle.cells.specs.Edits.{overlaid, after}
+use Rattle.cells.specs.Writes.{Pasted, Redone, Edited, BlockFits, Fits, Applied}
+use Rattle.cells.proofs.Lists.{split-lt, split-eq, paste-outside, paste-inside, differs-self, differs-append, take-map}
 use Rattle.cells.proofs.Parts.{length-row}
 use Rattle.cells.proofs.RowLaws.{cell-of-row, row-ext, applied-is}
 use Rattle.cells.proofs.ChangeLaws.{changed-none, changed-one, changed-join, changed-more}
 
 -- ---- a paste within one row
+
+-- a paste goes by the words that it takes
+pub paste-ext : (x : List ℕ) (a : ℕ) (s t : List ℕ) (n : ℕ) → take n s ≡ take n t → paste x a s n ≡ paste x a t n
+paste-ext x a s t n e = ap (λ (l : List ℕ). take a x ++ l ++ drop (a + n) x) e
 
 -- a list differs from what a paste makes of it where the part does
 pub differs-paste : (x : List ℕ) (a : ℕ) (s : List ℕ) (n : ℕ) → a + n ≤ length x → n ≤ length s
@@ -43,6 +47,10 @@ part-of-row p k a n h =
     let e : 80 * k + (a + c) ≡ 80 * k + a + c = omega arith in
     rw (getD-take n (drop a (row p k)) c 0 (omega arith), getD-take n (drop (80 * k + a) p) c 0 (omega arith), getD-drop a (row p k) c 0, getD-drop (80 * k + a) p c 0)
     (cell-of-row p k (a + c) (omega arith) ∙ ap (λ (m : ℕ). getD p m 0) e))
+
+pub mapped-part : (f : ℕ → ℕ) (p : List ℕ) (at k a n : ℕ) → at ≡ 80 * k + a → a + n ≤ 80 → take n (map f (drop at p)) ≡ take n (map f (drop a (row p k)))
+mapped-part f p at k a n place h =
+    take-map f n (drop at p) ∙ ap (map f) (ap (λ (i : ℕ). take n (drop i p)) place ∙ sym (part-of-row p k a n h)) ∙ sym (take-map f n (drop a (row p k)))
 
 module _ (p : List ℕ) (k a : ℕ) (s : List ℕ) (n : ℕ) (h : a + n ≤ 80) (hp : 80 * k + 80 ≤ length p) (hs : n ≤ length s) where
   kept-long : length (paste p (80 * k + a) s n) ≡ length p
@@ -81,23 +89,33 @@ module _ (p : List ℕ) (k a : ℕ) (s : List ℕ) (n : ℕ) (h : a + n ≤ 80) 
       (split-lt c (a + n)))
       (split-lt c a))
 
-  -- so that row is made anew, and its bit says whether it differs
-  pub redone-part : (q : List ℕ) (flag : Bool) → Pasted p q (80 * k + a) s n flag → k < 64
-      → (g : ℕ → List ℕ) → g k ≡ paste (row p k) a s n → Redone p q (λ j. eqb j k) g (bit flag * 2 ^ k)
-  redone-part q flag P hk g eg =
-      let same : row q k ≡ paste (row p k) a s n = ap (λ (l : List ℕ). row l k) (P .page) ∙ row-pasted in
-      let others : (j : ℕ) → (j ≡ k → ⊥) → row q j ≡ row p j = λ j ne. ap (λ (l : List ℕ). row l j) (P .page) ∙ row-others j ne in
-      let lx : length (row p k) ≡ 80 = length-row p k hp in
-      record {
-        long = ap length (P .page) ∙ kept-long;
-        rows = λ j. ⊎-elim
-            (λ (e : j ≡ k). rw (eq-eqb j k e, e) (same ∙ sym eg))
-            (λ (ne : j ≡ k → ⊥). rw (ne-eqb j k ne) (others j ne))
-            (split-eq j k);
-        marked = sym (changed-one 64 p q k flag hk
-            (ap (differs (row p k)) same ∙ differs-paste (row p k) a s n (omega arith) hs ∙ ap (λ (l : List ℕ). differs l (take n s)) (part-of-row p k a n h) ∙ sym (P .flagged))
-            others);
-      }
+-- so that row is made anew, and its bit says whether it differs
+pub redone-part : {p q : List ℕ} {k a e at : ℕ} {s : List ℕ} {flag : Bool} {bits : ℕ} → BlockFits p k (k + 1) a e → e - a ≤ length s → at ≡ 80 * k + a → Pasted p q at s (e - a) flag
+    → bits ≡ bit flag * 2 ^ k → (g : ℕ → List ℕ) → paste (row p k) a s (e - a) ≡ g k → Redone p q (λ j. eqb j k) g bits
+redone-part {p} {q} {k} {a} {e} {at} {s} {flag} B hs place P' eb g eg =
+    let P : Pasted p q (80 * k + a) s (e - a) flag = subst (λ (i : ℕ). Pasted p q i s (e - a) flag) place P' in
+    let h : a + (e - a) ≤ 80 = omega arith in
+    let hp : 80 * k + 80 ≤ length p = omega arith in
+    let lx : length (row p k) ≡ 80 = length-row p k hp in
+    let same : row q k ≡ paste (row p k) a s (e - a) = ap (λ (l : List ℕ). row l k) (P .page) ∙ row-pasted p k a s (e - a) h hp hs in
+    let others : (j : ℕ) → (j ≡ k → ⊥) → row q j ≡ row p j = λ j ne. ap (λ (l : List ℕ). row l j) (P .page) ∙ row-others p k a s (e - a) h hp hs j ne in
+    record {
+      long = ap length (P .page) ∙ kept-long p k a s (e - a) h hp hs;
+      rows = λ j. ⊎-elim
+          (λ (i : j ≡ k). rw (eq-eqb j k i, i) (same ∙ eg))
+          (λ (ne : j ≡ k → ⊥). rw (ne-eqb j k ne) (others j ne))
+          (split-eq j k);
+      marked = eb ∙ sym (changed-one 64 p q k flag (omega arith)
+          (ap (differs (row p k)) same ∙ differs-paste (row p k) a s (e - a) (omega arith) hs ∙ ap (λ (l : List ℕ). differs l (take (e - a) s)) (part-of-row p k a (e - a) h) ∙ sym (P .flagged))
+          others);
+    }
+
+-- and so is a row that takes columns of another
+pub redone-move : {p q : List ℕ} {k a e at from : ℕ} {flag : Bool} {bits : ℕ} (j : ℕ) → BlockFits p k (k + 1) a e → 80 * (j + 1) ≤ length p → at ≡ 80 * k + a → from ≡ 80 * j + a
+    → Pasted p q at (drop from p) (e - a) flag → bits ≡ bit flag * 2 ^ k → Redone p q (λ i. eqb i k) (λ i. overlaid (row p i) a e (row p j)) bits
+redone-move {p} {q} {k} {a} {e} {at} {from} {flag} j B h place source P eb =
+    redone-part B (simp length-drop (omega arith)) place P eb (λ i. overlaid (row p i) a e (row p j))
+    (paste-ext (row p k) a (drop from p) (drop a (row p j)) (e - a) (ap (λ (i : ℕ). take (e - a) (drop i p)) source ∙ sym (part-of-row p j a (e - a) (omega arith))))
 
 -- ---- one change after another
 
@@ -129,7 +147,10 @@ module _ {p q : List ℕ} {done : ℕ → Bool} {g : ℕ → List ℕ} {bits : �
 
 -- ---- an edit that is done
 
-pub edited-applied : (n : ℕ) (e : Edit) (p q : List ℕ) (bits : ℕ) → length p ≡ 80 * n → n ≤ 64 → Edited e p q bits
-    → (q ≡ applied n e p) × (bits ≡ bitsOf n (changed p q))
-edited-applied n e p q bits hp h E =
-    (applied-is n e p q hp (E .long ∙ hp) (λ j l. E .rows j), E .marked ∙ changed-more n 64 p q h (omega arith))
+pub edited-applied : {n : ℕ} {e d : Edit} {p q : List ℕ} {bits : ℕ} → Fits n e p → e ≡ d → Edited d p q bits → Applied n e p q bits
+edited-applied {n} {e} {d} {p} {q} {bits} F i E' =
+    let E : Edited e p q bits = subst (λ (x : Edit). Edited x p q bits) (sym i) E' in
+    record {
+      page = applied-is n e p q (F .long) (E .long ∙ F .long) (λ j l. E .rows j);
+      marked = E .marked ∙ changed-more n 64 p q (F .few) (omega arith);
+    }

@@ -8,7 +8,7 @@ use lib.Seq.{paste}
 use Rattle.cells.specs.declared.Edit.{Edit}
 use Rattle.cells.specs.Rows.{row, differs}
 use Rattle.cells.specs.Sets.{bitsOf, changed}
-use Rattle.cells.specs.Edits.{after, Within}
+use Rattle.cells.specs.Edits.{after, applied, Within}
 
 -- q is p with its n words from place `at` replaced by the first n of s, and the flag says whether one of them is another word
 pub record Pasted (p q : List ℕ) (at : ℕ) (s : List ℕ) (n : ℕ) (flag : Bool) : Type 0 where
@@ -25,8 +25,21 @@ pub record Redone (p q : List ℕ) (done : ℕ → Bool) (g : ℕ → List ℕ) 
 abbrev pub Edited : Edit → List ℕ → List ℕ → ℕ → Type 0
 Edited e p q bits = Redone p q (λ j. true) (after e (row p)) bits
 
+-- columns a to z of rows t to e lie on the page, and each of the rows has a bit
+pub record BlockFits (p : List ℕ) (t e a z : ℕ) : Type 0 where
+  pub top : t ≤ e
+  pub end : 80 * e ≤ length p
+  pub few : e ≤ 64
+  pub left : a ≤ z
+  pub right : z ≤ 80
+
 -- an edit that stays on a page of n rows, which are not more than a u64 has bits
 pub record Fits (n : ℕ) (e : Edit) (p : List ℕ) : Type 0 where
   pub long : length p ≡ 80 * n
   pub few : n ≤ 64
   pub within : Within n e
+
+-- it is applied, and the bits are those of the rows that differ
+pub record Applied (n : ℕ) (e : Edit) (p q : List ℕ) (bits : ℕ) : Type 0 where
+  pub page : q ≡ applied n e p
+  pub marked : bits ≡ bitsOf n (changed p q)

@@ -1,4 +1,9 @@
 // The page: what a cell holds, and the edits that a step makes.
+pub mod edits;
+pub mod marks;
+pub mod rows;
+pub mod segments;
+pub mod words;
 
 // The character sets. The first three have 94 signs, Latin-1 has 96.
 pub enum CharSet {

@@ -1,0 +1,99 @@
+-- Rows from that of the run's start to `k` are done, each in the columns of the run. The run touches no other row.
+use borrow.Author.Needs.{needs}
+use mathlib.Core.Path.{_≡_, refl}
+use mathlib.Core.Logic.{inr}
+use Prim.Native.Nat.{ℕ, _+_, _-_, _/_, _≤_}
+use native.Mathlib.Omega.{arith}
+use lib.ListN.{replicate}
+use lib.Seq.{paste}
+use Rattle.cells.specs.Rows.{row}
+use Rattle.cells.specs.declared.Edit.the-variants.{Fill}
+use Rattle.cells.specs.Edits.{after, between}
+use Rattle.cells.specs.Writes.{Redone}
+use Rattle.cells.proofs.Blocks.{block-none, block-up, block-all, block-old, block-edited, off-run}
+use Rattle.cells.proofs.edits.fill.Statement.{statement}
+use Rattle.cells.proofs.edits.fill.Tie as tie
+
+abbrev Inv-loop : tie.InvT-loop
+Inv-loop page₀ from to word bits₀ k₀ end page bits k = (from / 80 ≤ k) × (k ≤ (to + 79) / 80) × Redone page₀ page (between (from / 80) k) (after (Fill from to word) (row page₀)) bits
+
+abbrev μ-loop : tie.MeasureT-loop
+μ-loop page₀ from to word bits₀ k₀ end page bits k = (to + 79) / 80 - k
+
+cast-k : tie.Need-cast-k Inv-loop μ-loop
+cast-k c = search needs
+
+add-end : tie.Need-add-end Inv-loop μ-loop
+add-end c = search needs
+
+cast-end : tie.Need-cast-end Inv-loop μ-loop
+cast-end c = search needs
+
+loop-holds : tie.Need-loop-holds Inv-loop μ-loop
+loop-holds c = (omega arith, omega arith, block-none _ _ _)
+
+column-in-requires : tie.Need-column-in-requires Inv-loop μ-loop
+column-in-requires c κs = search needs
+
+column-in-requires-2 : tie.Need-column-in-requires-2 Inv-loop μ-loop
+column-in-requires-2 c κs = search needs
+
+fill-row-requires : tie.Need-fill-row-requires Inv-loop μ-loop
+fill-row-requires c κs = search needs
+
+add-k : tie.Need-add-k Inv-loop μ-loop
+add-k c = search needs
+
+loop-less : tie.Need-loop-less Inv-loop μ-loop
+loop-less c = search needs
+
+loop-again : tie.Need-loop-again Inv-loop μ-loop
+loop-again c =
+    let m = c .before .before in
+    let right = m .before in
+    let left = right .before in
+    let l = left .before .before .before in
+    let a = l .before .before .args in
+    let R = l .loop .inv .2 in
+    let k : ℕ = l .loop .k in
+    let old : row (l .loop .page) k ≡ row (a .page .now) k = block-old R k (inr (omega arith)) in
+    let w : ℕ = a .word in (
+      omega arith,
+      omega arith,
+      block-up R (m .fill-row .ensures)
+          (λ i.
+          let x : ℕ = left .column-in .ensures i in
+          let y : ℕ = right .column-in2 .ensures i in
+          paste (old i) x (replicate (y - x) w) (y - x))
+          refl (l .loop .inv .0),
+    )
+
+same-length : tie.Need-same-length Inv-loop μ-loop
+same-length c = search needs
+
+returns : tie.Need-returns Inv-loop μ-loop
+returns c =
+    let l = c .before in
+    let s = l .before .before in
+    let a = s .args in
+    block-edited (Fill (a .from) (a .to) (a .word)) (block-all (l .loop .inv .2) refl (omega arith))
+    (λ j o. off-run (row (a .page .now) j) _ (a .from) (a .to) j (s .pre .1) o)
+
+pub fill-spec : {M : Type 1} → statement M
+fill-spec =
+    tie.close
+    (tie.spec
+    Inv-loop
+    μ-loop
+    cast-k
+    add-end
+    cast-end
+    loop-holds
+    column-in-requires
+    column-in-requires-2
+    fill-row-requires
+    add-k
+    loop-less
+    loop-again
+    same-length
+    returns)

@@ -1,0 +1,49 @@
+-- One segment of the row is selectively erased, and its flag is the row's bit.
+use native.Mathlib.Omega.{arith}
+use Prim.Native.Nat.{_-_}
+use lib.ListN.{length-drop, length-map}
+use Rattle.cells.specs.Rows.{row}
+use Rattle.cells.specs.Cells.{selectivelyErased}
+use Rattle.cells.proofs.Redoing.{redone-part, paste-ext, mapped-part}
+use borrow.Author.Needs.{needs}
+use Rattle.cells.proofs.rows.erase_row.Statement.{statement}
+use Rattle.cells.proofs.rows.erase_row.Tie as tie
+
+sub-len : tie.Need-sub-len
+sub-len c = search needs
+
+cast-len : tie.Need-cast-len
+cast-len c = search needs
+
+place-requires : tie.Need-place-requires
+place-requires c κs = search needs
+
+erase-words-requires : tie.Need-erase-words-requires
+erase-words-requires c κs = search needs
+
+row-bit-requires : tie.Need-row-bit-requires
+row-bit-requires c κs = search needs
+
+same-length : tie.Need-same-length
+same-length c = search needs
+
+returns : tie.Need-returns
+returns c =
+    let d = c .before .before .before in
+    let s = d .before .before .before .before in
+    let a = s .args in
+    redone-part (s .pre) (simp (length-map, length-drop) (omega arith)) (d .before .place .ensures) (d .erase-words .ensures) (c .row-bit .ensures) _
+    (paste-ext (row (a .page .now) (a .at)) (a .left) _ _ (a .right - a .left)
+    (mapped-part selectivelyErased (a .page .now) _ (a .at) (a .left) (a .right - a .left) (d .before .place .ensures) (omega arith)))
+
+pub erase-row-spec : {M : Type 1} → statement M
+erase-row-spec =
+    tie.close
+    (tie.spec
+    sub-len
+    cast-len
+    place-requires
+    erase-words-requires
+    row-bit-requires
+    same-length
+    returns)

@@ -1,0 +1,69 @@
+-- Rows from `k` to `end` are done. The row that row k takes is not done yet, since the loop goes downward and takes from above.
+use borrow.Author.Needs.{needs}
+use mathlib.Core.Path.{refl, ap₂}
+use mathlib.Core.List.{List}
+use mathlib.Core.Logic.{inl}
+use Prim.Native.Nat.{ℕ, _-_, _≤_}
+use native.Mathlib.Omega.{arith}
+use Rattle.cells.specs.Rows.{row}
+use Rattle.cells.specs.Edits.{overlaid, between}
+use Rattle.cells.specs.Writes.{Redone}
+use Rattle.cells.proofs.Blocks.{block-none, block-down, block-all, block-old}
+use Rattle.cells.proofs.rows.lower_rows.Statement.{statement}
+use Rattle.cells.proofs.rows.lower_rows.Tie as tie
+
+abbrev Inv-loop : tie.InvT-loop
+Inv-loop page₀ top end left right count bits₀ k₀ page bits k = (top ≤ k) × (k ≤ end) × Redone page₀ page (between k end) (λ j. overlaid (row page₀ j) left right (row page₀ (j - count))) bits
+
+abbrev μ-loop : tie.MeasureT-loop
+μ-loop page₀ top end left right count bits₀ k₀ page bits k = k
+
+loop-holds : tie.Need-loop-holds Inv-loop μ-loop
+loop-holds c = (omega arith, omega arith, block-none _ _ _)
+
+sub-k : tie.Need-sub-k Inv-loop μ-loop
+sub-k c = search needs
+
+sub-move-row : tie.Need-sub-move-row Inv-loop μ-loop
+sub-move-row c = search needs
+
+move-row-requires : tie.Need-move-row-requires Inv-loop μ-loop
+move-row-requires c κs = search needs
+
+loop-less : tie.Need-loop-less Inv-loop μ-loop
+loop-less c = search needs
+
+loop-again : tie.Need-loop-again Inv-loop μ-loop
+loop-again c =
+    let m = c .before .before in
+    let l = m .before .before .before in
+    let a = l .before .before .args in
+    let R = l .loop .inv .2 in
+    let k : ℕ = l .loop .k - 1 in (
+      omega arith,
+      omega arith,
+      block-down R (m .move-row .ensures)
+          (ap₂ (λ (x y : List ℕ). overlaid x (a .left) (a .right) y) (block-old R k (inl (omega arith))) (block-old R (k - a .count) (inl (omega arith))))
+          (omega arith) (l .loop .inv .1),
+    )
+
+same-length : tie.Need-same-length Inv-loop μ-loop
+same-length c = search needs
+
+returns : tie.Need-returns Inv-loop μ-loop
+returns c = block-all (c .before .loop .inv .2) (omega arith) refl
+
+pub lower-rows-spec : {M : Type 1} → statement M
+lower-rows-spec =
+    tie.close
+    (tie.spec
+    Inv-loop
+    μ-loop
+    loop-holds
+    sub-k
+    sub-move-row
+    move-row-requires
+    loop-less
+    loop-again
+    same-length
+    returns)

@@ -1,0 +1,20 @@
+-- The test is that of the definition, on the protected bit.
+use borrow.Author.Tests.{eq-eqb, ne-eqb}
+use Rattle.cells.specs.Cells.{selectivelyErased, unpacked}
+use borrow.Author.Needs.{needs}
+use Rattle.cells.proofs.words.selectively_erase.Statement.{statement}
+use Rattle.cells.proofs.words.selectively_erase.Tie as tie
+
+space-requires : tie.Need-space-requires
+space-requires c κs = search needs
+
+returns : tie.Need-returns
+unfolding selectivelyErased unpacked
+returns c = rw (eq-eqb _ _ (c .if1 .taken))
+
+returns-2 : tie.Need-returns-2
+unfolding selectivelyErased unpacked
+returns-2 c = rw (ne-eqb _ _ (c .before .if1 .left)) (c .space .ensures)
+
+pub selectively-erase-spec : {M : Type 1} → statement M
+selectively-erase-spec = tie.close (tie.spec space-requires returns returns-2)

@@ -1,0 +1,84 @@
+// Segments: runs of words in a lent slice. Each function writes each word of its segment once, compares
+// it with the one that stood there, and says whether some word changed.
+use crate::words::selectively_erase;
+ghost use mathlib.Core.List.{map};
+ghost use Prim.Native.Nat.{_+_, _≤_};
+ghost use lib.ListN.{length, drop, replicate};
+ghost use Rattle.cells.specs.Cells.{selectivelyErased};
+ghost use Rattle.cells.specs.Writes.{Pasted};
+
+// Copies `len` words from `from` to `to`, which is not a later place.
+fn copy_earlier(page: &mut [u16], to: usize, from: usize, len: usize) -> bool
+    requires { ⌜ (to ≤ from) × (from + len ≤ length (now page)) ⌝ }
+    ensures { λ r. ⌜ Pasted (now (page .entry)) (now (page .exit)) to (drop from (now (page .entry))) len r ⌝ }
+{
+    let mut changed = false;
+    let mut k = 0;
+    while k < len {
+        let word = page[from + k];
+        changed = changed | (page[to + k] != word);
+        page[to + k] = word;
+        k += 1;
+    }
+    changed
+}
+
+// Copies `len` words from `from` to `to`, which is not an earlier place.
+fn copy_later(page: &mut [u16], to: usize, from: usize, len: usize) -> bool
+    requires { ⌜ (from ≤ to) × (to + len ≤ length (now page)) ⌝ }
+    ensures { λ r. ⌜ Pasted (now (page .entry)) (now (page .exit)) to (drop from (now (page .entry))) len r ⌝ }
+{
+    let mut changed = false;
+    let mut k = len;
+    while 0 < k {
+        k -= 1;
+        let word = page[from + k];
+        changed = changed | (page[to + k] != word);
+        page[to + k] = word;
+    }
+    changed
+}
+
+// Copies `len` words from `from` to `to`, which may overlap.
+pub fn copy_words(page: &mut [u16], to: usize, from: usize, len: usize) -> bool
+    requires { ⌜ (from + len ≤ length (now page)) × (to + len ≤ length (now page)) ⌝ }
+    ensures { λ r. ⌜ Pasted (now (page .entry)) (now (page .exit)) to (drop from (now (page .entry))) len r ⌝ }
+{
+    if to <= from {
+        copy_earlier(page, to, from, len)
+    } else {
+        copy_later(page, to, from, len)
+    }
+}
+
+// `len` words from `to` on become `word`.
+pub fn fill_words(page: &mut [u16], to: usize, len: usize, word: u16) -> bool
+    requires { ⌜ to + len ≤ length (now page) ⌝ }
+    ensures { λ r. ⌜ Pasted (now (page .entry)) (now (page .exit)) to (replicate len word) len r ⌝ }
+{
+    let mut changed = false;
+    let mut k = 0;
+    while k < len {
+        changed = changed | (page[to + k] != word);
+        page[to + k] = word;
+        k += 1;
+    }
+    changed
+}
+
+// `len` words from `to` on are selectively erased.
+pub fn erase_words(page: &mut [u16], to: usize, len: usize) -> bool
+    requires { ⌜ to + len ≤ length (now page) ⌝ }
+    ensures { λ r. ⌜ Pasted (now (page .entry)) (now (page .exit)) to (map selectivelyErased (drop to (now (page .entry)))) len r ⌝ }
+{
+    let mut changed = false;
+    let mut k = 0;
+    while k < len {
+        let old = page[to + k];
+        let word = selectively_erase(old);
+        changed = changed | (old != word);
+        page[to + k] = word;
+        k += 1;
+    }
+    changed
+}
