@@ -7,7 +7,8 @@ use lib.Dec.{eqb, ltb}
 use lib.ListN.{length}
 use borrow.Author.Tests.{eq-eqb, ne-eqb, eqb-true, eqb-false, ltb-true, lt-ltb}
 use Rattle.vt.specs.Whole.{wholeCore}
-use Rattle.vt.proofs.Tests.{and-left, and-right, and-both}
+use Rattle.vt.specs.Parser.{between}
+use Rattle.vt.proofs.Tests.{and-left, and-right, and-both, between-low, between-high}
 use Rattle.vt.proofs.Wholeness.{facts, tested}
 use Rattle.terminal.specs.declared.State.{State}
 use Rattle.terminal.specs.declared.Answer.{Answer}
@@ -17,7 +18,7 @@ use Rattle.terminal.specs.Whole.{wholeState, WholeState}
 use Rattle.terminal.specs.Start.{startAnswer, startGives, started}
 use Rattle.terminal.specs.Feed.{Feed, readCount, fitting, screen, feedFirst, feedRefused, feedGives, fed}
 use Rattle.terminal.specs.Ask.{askDone, askRefused, asked}
-use Rattle.terminal.specs.Read.{readAnswer, readWord, cellRead}
+use Rattle.terminal.specs.Read.{onPage, readAnswer, readWord, cellRead}
 use Rattle.terminal.proofs.StepLaws.{Sane}
 
 -- ---- whole states
@@ -114,6 +115,18 @@ module _ (s : State) (p i o : List ℕ) where
       left-as a e = rw e (record { read = refl; replied = refl; state = refl; page = refl; reply = refl })
 
 -- ---- asking and reading
+
+pub record OnPage (rows r c : ℕ) : Type 0 where
+  pub row-low : 1 ≤ r
+  pub row-high : r ≤ rows
+  pub column-low : 1 ≤ c
+  pub column-high : c ≤ 80
+
+pub on-page : (rows r c : ℕ) → onPage rows r c ≡ true → OnPage rows r c
+on-page rows r c e =
+    let a = and-left (between 1 r rows) (between 1 c 80) e in
+    let b = and-right (between 1 r rows) (between 1 c 80) e in
+    record { row-low = between-low 1 r rows a; row-high = between-high 1 r rows a; column-low = between-low 1 c 80 b; column-high = between-high 1 c 80 b }
 
 pub asked-done : (s : State) → wholeState s ≡ true → asked s ≡ askDone s
 unfolding asked

@@ -39,9 +39,10 @@ ready-sane s p k = record { whole = k .whole; rows = refl; size = k .size; few =
 
 pub sane-ready : (r : ℕ) (s : State) (p : List ℕ) → Sane r (screen s p) → Ready s p
 sane-ready r s p k = record {
-    whole = k .whole;
-    few = rw (k .rows) (k .few);
-    size = k .size ∙ ap (λ (i : ℕ). 80 * i) (sym (k .rows)) }
+  whole = k .whole;
+  few = rw (k .rows) (k .few);
+  size = k .size ∙ ap (λ (i : ℕ). 80 * i) (sym (k .rows));
+}
 
 -- an edit that was applied, with its bits joined to those that were there
 edited-is : (r : ℕ) (e : Edit) (m : Marked) (q : List ℕ) (k : ℕ) → length (m .page) ≡ 80 * r → m .changed < 2 ^ r → Within r e
@@ -50,7 +51,7 @@ edited-is r e m q k h l w eq ek =
     ap₂ (λ (a : List ℕ) (b : ℕ). record { page = a; changed = b })
     (eq ∙ sym (edited-page r e m h))
     (ap (bitOr (m .changed)) (ek ∙ ap (λ (x : List ℕ). bitsOf r (changed (m .page) x)) eq)
-      ∙ or-added r (m .changed) (changed (m .page) (applied r e (m .page))) l ∙ sym (edited-changed r e m h l w))
+    ∙ or-added r (m .changed) (changed (m .page) (applied r e (m .page))) l ∙ sym (edited-changed r e m h l w))
 
 -- one byte of the code is one byte of the definition
 pub step-is : (s : State) (b : ℕ) (p q1 q2 : List ℕ) (x : Decision) (m1 m2 : ℕ) → Ready s p → x ≡ decided (s .core) b
@@ -67,10 +68,10 @@ step-is s b p q1 q2 x m1 m2 k ex e1 f1 e2 f2 =
     let start : Marked = record { page = p; changed = s .changed } in
     let l1 : length q1 ≡ 80 * r = ap length e1 ∙ length-applied r (x .first) p (k .size) w1 in
     let b1 : bitOr (s .changed) m1 < 2 ^ r =
-        subst (λ (n : ℕ). n < 2 ^ r) (sym (ap (bitOr (s .changed)) f1 ∙ or-added r (s .changed) (changed p q1) (k .few))) (added-lt r (s .changed) (changed p q1)) in
+    subst (λ (n : ℕ). n < 2 ^ r) (sym (ap (bitOr (s .changed)) f1 ∙ or-added r (s .changed) (changed p q1) (k .few))) (added-lt r (s .changed) (changed p q1)) in
     let one : record { page = q1; changed = bitOr (s .changed) m1 } ≡ edited r (x .first) start = edited-is r (x .first) start q1 m1 (k .size) (k .few) w1 e1 f1 in
     let two : record { page = q2; changed = bitOr (bitOr (s .changed) m1) m2 } ≡ edited r (x .second) (edited r (x .first) start) =
-        edited-is r (x .second) (record { page = q1; changed = bitOr (s .changed) m1 }) q2 m2 l1 b1 w2 e2 f2 ∙ ap (edited r (x .second)) one in
+    edited-is r (x .second) (record { page = q1; changed = bitOr (s .changed) m1 }) q2 m2 l1 b1 w2 e2 f2 ∙ ap (edited r (x .second)) one in
     ap (λ (m : Marked). record { core = x .core; page = m .page; changed = m .changed }) two
     ∙ ap (λ (y : Decision). let m = edited r (y .second) (edited r (y .first) start) in record { core = y .core; page = m .page; changed = m .changed }) ex
 
@@ -88,13 +89,14 @@ pub record Running (s₀ : State) (p₀ input o₀ : List ℕ) (i : ℕ) (s : St
 pub running-none : (s : State) (p input o : List ℕ) → Ready s p → Running s p input o 0 s p o 0
 unfolding ran sent
 running-none s p input o r = record {
-    within = zero-le;
-    screen-is = refl;
-    sending = sent-none o 0;
-    room = zero-le;
-    left = ap (λ (n : ℕ). readable n (s .core) input) (omega arith) ∙ sym (zero-add (readable (length o - 0) (s .core) input));
-    ready = r;
-    long = refl }
+  within = zero-le;
+  screen-is = refl;
+  sending = sent-none o 0;
+  room = zero-le;
+  left = ap (λ (n : ℕ). readable n (s .core) input) (omega arith) ∙ sym (zero-add (readable (length o - 0) (s .core) input));
+  ready = r;
+  long = refl;
+}
 
 shift : (i n : ℕ) → i + suc n ≡ i + 1 + n
 shift i n = omega arith
@@ -111,13 +113,15 @@ module _ {s₀ : State} {p₀ input o₀ : List ℕ} {i : ℕ} {s : State} {p o 
   ended : (a : Answer) → fitting s₀ input o₀ ≡ a → readable (length o₀) (s₀ .core) input ≡ i
       → FedAs (feedFirst (fitting s₀ input o₀) (readCount s₀ input o₀) s₀ p₀ input o₀) (record { answer = a; read = i; replied = n; state = s }) p o
   ended a ea en = record {
-      result = λ j. record {
-        answer = sym ea j;
-        read = sym en j;
-        replied = (R .sending .ends ∙ zero-add (length (sent (s₀ .core) (take i input))) ∙ ap (λ (k : ℕ). length (sent (s₀ .core) (take k input))) (sym en)) j;
-        state = record { core = whole j .core; changed = whole j .changed } };
-      page-is = ap (λ (d : Screen). d .page) whole;
-      reply-is = R .sending .is ∙ ap (λ (k : ℕ). lib.Seq.sets o₀ 0 (sent (s₀ .core) (take k input))) (sym en) }
+    result = λ j. record {
+      answer = sym ea j;
+      read = sym en j;
+      replied = (R .sending .ends ∙ zero-add (length (sent (s₀ .core) (take i input))) ∙ ap (λ (k : ℕ). length (sent (s₀ .core) (take k input))) (sym en)) j;
+      state = record { core = whole j .core; changed = whole j .changed };
+    };
+    page-is = ap (λ (d : Screen). d .page) whole;
+    reply-is = R .sending .is ∙ ap (λ (k : ℕ). lib.Seq.sets o₀ 0 (sent (s₀ .core) (take k input))) (sym en);
+  }
     where
       whole : screen s p ≡ ran (screen s₀ p₀) (take (readable (length o₀) (s₀ .core) input) input)
       whole = R .screen-is ∙ ap (λ (k : ℕ). ran (screen s₀ p₀) (take k input)) (sym en)
@@ -155,14 +159,15 @@ module _ {s₀ : State} {p₀ input o₀ : List ℕ} {i : ℕ} {s : State} {p o 
               ∙ ap₂ (λ (m : ℕ) (c : Core). i + suc (readable m c (drop (i + 1) input))) left' (sym c')
               ∙ shift i (readable (length o₀ - n') (s' .core) (drop (i + 1) input));
           ready = sane-ready (s .core .rows) s' p' k;
-          long = el ∙ R .long }
+          long = el ∙ R .long;
+        }
 
     pub running-full : length o₀ - n < length (sends (s .core) b)
         → FedAs (feedFirst (fitting s₀ input o₀) (readCount s₀ input o₀) s₀ p₀ input o₀) (record { answer = NoRoom; read = i; replied = n; state = s }) p o
     running-full full =
         let en : readable (length o₀) (s₀ .core) input ≡ i =
-            R .left ∙ ap (λ (l : List ℕ). i + readable (length o₀ - n) (s .core) l) rest
-            ∙ ap (λ (k : ℕ). i + k) (readable-full (length o₀ - n) (s .core) b (drop (i + 1) input) full) ∙ add-zero i in
+        R .left ∙ ap (λ (l : List ℕ). i + readable (length o₀ - n) (s .core) l) rest
+        ∙ ap (λ (k : ℕ). i + k) (readable-full (length o₀ - n) (s .core) b (drop (i + 1) input) full) ∙ add-zero i in
         ended NoRoom (rw (en, lt-ltb i (length input) more)) en
 
   pub running-done : length input ≤ i
@@ -170,5 +175,5 @@ module _ {s₀ : State} {p₀ input o₀ : List ℕ} {i : ℕ} {s : State} {p o 
   unfolding readable
   running-done all =
       let en : readable (length o₀) (s₀ .core) input ≡ i =
-          R .left ∙ ap (λ (l : List ℕ). i + readable (length o₀ - n) (s .core) l) (drop-of-length-le input all) ∙ add-zero i in
+      R .left ∙ ap (λ (l : List ℕ). i + readable (length o₀ - n) (s .core) l) (drop-of-length-le input all) ∙ add-zero i in
       ended Done (rw (en, le-ltb i (length input) all)) en

@@ -8,7 +8,7 @@ use crate::State;
 use crate::run::run;
 use crate::whole::is_whole;
 use cells::edits::clear;
-use cells::marks::count;
+use cells::marks::count_rows;
 use vt::fresh::fresh_core;
 ghost use mathlib.Core.Path.{_≡_};
 ghost use Rattle.vt.specs.Whole.{sized};
@@ -93,7 +93,7 @@ pub fn ask(state: State) -> Asked
     Asked {
         answer: Answer::Done,
         rows: changed,
-        count: count(changed, rows),
+        count: count_rows(changed),
         state: State { core, changed: 0 },
     }
 }

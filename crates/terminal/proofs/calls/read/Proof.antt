@@ -1,0 +1,96 @@
+-- Each return is the definition's case, by the tests that led there; on the page, the cell's place is inside the slice.
+use mathlib.Core.Path.{_≡_, sym, _∙_}
+use native.Mathlib.Omega.{arith}
+use borrow.Author.Tests.{eq-eqb, ne-eqb, not-true, not-false}
+use Rattle.terminal.specs.Read.{cellRead}
+use Rattle.terminal.proofs.CallLaws.{on-page}
+use borrow.Author.Needs.{needs}
+use Rattle.terminal.proofs.calls.read.Statement.{statement}
+use Rattle.terminal.proofs.calls.read.Tie as tie
+
+is-whole-requires : tie.Need-is-whole-requires
+is-whole-requires c κs = search needs
+
+returns : tie.Need-returns
+unfolding cellRead
+returns c = rw (sym (c .before .is-whole .ensures) ∙ not-true _ (c .if1 .taken))
+
+cast-rows : tie.Need-cast-rows
+cast-rows c = search needs
+
+mul-if2 : tie.Need-mul-if2
+mul-if2 c = search needs
+
+returns-2 : tie.Need-returns-2
+unfolding cellRead
+returns-2 c =
+    let e1 = c .before .before .before in
+    rw (sym (e1 .before .is-whole .ensures) ∙ not-false _ (e1 .if1 .left), ne-eqb _ _ (c .if2 .taken))
+
+sub-at : tie.Need-sub-at
+sub-at c =
+    let a = c .before .before .before .before .before .before .before .args in
+    let o = on-page (a .state .core .rows) (a .row) (a .column) (c .if3 .taken) in
+    omega (arith, o)
+
+mul-at : tie.Need-mul-at
+mul-at c =
+    let a = c .before .before .before .before .before .before .before .args in
+    let o = on-page (a .state .core .rows) (a .row) (a .column) (c .if3 .taken) in
+    omega (arith, o)
+
+sub-at-2 : tie.Need-sub-at-2
+sub-at-2 c =
+    let a = c .before .before .before .before .before .before .before .args in
+    let o = on-page (a .state .core .rows) (a .row) (a .column) (c .if3 .taken) in
+    omega (arith, o)
+
+add-at : tie.Need-add-at
+add-at c =
+    let a = c .before .before .before .before .before .before .before .args in
+    let o = on-page (a .state .core .rows) (a .row) (a .column) (c .if3 .taken) in
+    omega (arith, o)
+
+mul-t20 : tie.Need-mul-t20
+mul-t20 c =
+    let a = c .before .before .before .before .before .before .before .args in
+    let o = on-page (a .state .core .rows) (a .row) (a .column) (c .if3 .taken) in
+    omega (arith, o)
+
+shared-slice-read-t25 : tie.Need-shared-slice-read-t25
+shared-slice-read-t25 c =
+    let a = c .before .before .before .before .before .before .before .before .args in
+    let o = on-page (a .state .core .rows) (a .row) (a .column) (c .before .if3 .taken) in
+    omega (arith, o, c .before .before .if2 .left)
+
+returns-3 : tie.Need-returns-3
+unfolding cellRead
+returns-3 c =
+    let e2 = c .before .before in
+    let e1 = e2 .before .before .before in
+    rw (sym (e1 .before .is-whole .ensures) ∙ not-false _ (e1 .if1 .left), eq-eqb _ _ (e2 .if2 .left), c .before .if3 .taken)
+
+returns-4 : tie.Need-returns-4
+unfolding cellRead
+returns-4 c =
+    let e2 = c .before in
+    let e1 = e2 .before .before .before in
+    rw (sym (e1 .before .is-whole .ensures) ∙ not-false _ (e1 .if1 .left), eq-eqb _ _ (e2 .if2 .left), c .if3 .left)
+
+pub read-spec : {M : Type 1} → statement M
+read-spec =
+    tie.close
+    (tie.spec
+    is-whole-requires
+    returns
+    cast-rows
+    mul-if2
+    returns-2
+    sub-at
+    mul-at
+    sub-at-2
+    add-at
+    mul-t20
+    shared-slice-read-t25
+    returns-3
+    returns-4)

@@ -1,0 +1,61 @@
+-- Each return is the definition's case, by the tests that led there.
+use mathlib.Core.Path.{_≡_, refl, sym, ap, _∙_}
+use Prim.Native.Nat.{ℕ}
+use lib.ListN.{replicate}
+use borrow.Author.Tests.{eq-eqb, ne-eqb, not-true, not-false}
+use Rattle.cells.specs.Cells.{blank}
+use Rattle.vt.specs.Whole.{sized}
+use Rattle.terminal.specs.Start.{started}
+use borrow.Author.Needs.{needs}
+use Rattle.terminal.proofs.calls.start.Statement.{statement}
+use Rattle.terminal.proofs.calls.start.Tie as tie
+
+fresh-requires : tie.Need-fresh-requires
+fresh-requires c κs = search needs
+
+returns : tie.Need-returns
+unfolding started
+returns c = rw (not-true (sized (c .before .before .before .args .rows)) (c .before .if1 .taken), c .fresh .ensures) (record { result = refl; page-is = refl })
+
+mul-if2 : tie.Need-mul-if2
+mul-if2 c = search needs
+
+fresh-requires-2 : tie.Need-fresh-requires-2
+fresh-requires-2 c κs = search needs
+
+returns-2 : tie.Need-returns-2
+unfolding started
+returns-2 c =
+    rw (not-false (sized (c .before .before .before .before .args .rows)) (c .before .before .if1 .left), ne-eqb _ _ (c .before .if2 .taken), c .fresh2 .ensures)
+    (record { result = refl; page-is = refl })
+
+clear-requires : tie.Need-clear-requires
+clear-requires c κs = search needs
+
+fresh-requires-3 : tie.Need-fresh-requires-3
+fresh-requires-3 c κs = search needs
+
+same-length : tie.Need-same-length
+same-length c = search needs
+
+returns-3 : tie.Need-returns-3
+unfolding started
+returns-3 c =
+    let cl = c .before .before .before in
+    let e2 = cl .before .before in
+    rw (not-false (sized (e2 .before .before .before .args .rows)) (e2 .before .if1 .left), eq-eqb _ _ (e2 .if2 .left), c .fresh3 .ensures)
+    (record { result = refl; page-is = cl .clear .ensures ∙ ap (λ (n : ℕ). replicate n blank) (e2 .if2 .left) })
+
+pub start-spec : {M : Type 1} → statement M
+start-spec =
+    tie.close
+    (tie.spec
+    fresh-requires
+    returns
+    mul-if2
+    fresh-requires-2
+    returns-2
+    clear-requires
+    fresh-requires-3
+    same-length
+    returns-3)
