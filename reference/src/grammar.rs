@@ -1,0 +1,1016 @@
+//! Seeded streams of hostile bytes, to compare two programs on.
+//!
+//! A stream is a row of pieces. There are many kinds of piece, from plain text
+//! to noise, and the seed chooses how often each comes, so that one seed mostly
+//! scrolls in margins, another mostly erases protected cells, and so on.
+
+/// A small pseudo-random generator (splitmix64).
+pub struct Random(u64);
+
+impl Random {
+    pub fn new(seed: u64) -> Random {
+        Random(seed)
+    }
+
+    pub fn next(&mut self) -> u64 {
+        self.0 = self.0.wrapping_add(0x9E37_79B9_7F4A_7C15);
+        let mut z = self.0;
+        z = (z ^ (z >> 30)).wrapping_mul(0xBF58_476D_1CE4_E5B9);
+        z = (z ^ (z >> 27)).wrapping_mul(0x94D0_49BB_1331_11EB);
+        z ^ (z >> 31)
+    }
+
+    /// From 0 to `n` - 1; `n` is not 0.
+    pub fn below(&mut self, n: usize) -> usize {
+        (self.next() % n as u64) as usize
+    }
+
+    /// From `low` to `high`, both included.
+    pub fn between(&mut self, low: usize, high: usize) -> usize {
+        low + self.below(high - low + 1)
+    }
+
+    pub fn byte(&mut self, low: u8, high: u8) -> u8 {
+        self.between(low as usize, high as usize) as u8
+    }
+
+    pub fn percent(&mut self, n: usize) -> bool {
+        self.below(100) < n
+    }
+
+    pub fn pick<T: Copy>(&mut self, list: &[T]) -> T {
+        list[self.below(list.len())]
+    }
+}
+
+/// The kinds of piece.
+#[derive(Clone, Copy, PartialEq, Eq, Debug)]
+enum Kind {
+    Text,
+    EdgeText,
+    Controls,
+    HighControls,
+    Moves,
+    Erases,
+    Edits,
+    Margins,
+    Modes,
+    Looks,
+    Tabs,
+    Saves,
+    Resets,
+    Sets,
+    Queries,
+    Strings,
+    Unlisted,
+    ManyParameters,
+    ControlsInside,
+    HighBits,
+    Damaged,
+    Cancels,
+    Noise,
+    ScrollScene,
+    EditScene,
+    ProtectScene,
+    WrapScene,
+    ShiftScene,
+    OriginScene,
+    EchoScene,
+}
+
+/// Every kind, with its usual weight.
+const KINDS: [(Kind, usize); 30] = [
+    (Kind::Text, 30),
+    (Kind::EdgeText, 15),
+    (Kind::Controls, 15),
+    (Kind::HighControls, 8),
+    (Kind::Moves, 20),
+    (Kind::Erases, 8),
+    (Kind::Edits, 12),
+    (Kind::Margins, 6),
+    (Kind::Modes, 8),
+    (Kind::Looks, 8),
+    (Kind::Tabs, 5),
+    (Kind::Saves, 6),
+    (Kind::Resets, 1),
+    (Kind::Sets, 8),
+    (Kind::Queries, 6),
+    (Kind::Strings, 4),
+    (Kind::Unlisted, 8),
+    (Kind::ManyParameters, 4),
+    (Kind::ControlsInside, 5),
+    (Kind::HighBits, 5),
+    (Kind::Damaged, 10),
+    (Kind::Cancels, 4),
+    (Kind::Noise, 4),
+    (Kind::ScrollScene, 6),
+    (Kind::EditScene, 6),
+    (Kind::ProtectScene, 6),
+    (Kind::WrapScene, 8),
+    (Kind::ShiftScene, 5),
+    (Kind::OriginScene, 5),
+    (Kind::EchoScene, 2),
+];
+
+/// The weights for a seed: some kinds not at all, some seldom, one to three
+/// favourites very often. One seed in eight has the usual weights.
+fn weights(random: &mut Random) -> Vec<usize> {
+    let mut list: Vec<usize> = KINDS.iter().map(|&(_, weight)| weight).collect();
+    if random.percent(12) {
+        return list;
+    }
+    for weight in &mut list {
+        *weight *= random.pick(&[0, 1, 1, 2, 2, 4]);
+    }
+    for _ in 0..random.between(1, 3) {
+        let favourite = random.below(list.len());
+        let usual = KINDS[favourite].1.clamp(4, 15);
+        list[favourite] += usual * 12;
+    }
+    // Text, so that there is something on the page to move and erase.
+    list[0] += 10;
+    list
+}
+
+/// A stream of exactly `len` bytes, always the same for a seed.
+pub fn stream(seed: u64, len: usize) -> Vec<u8> {
+    let mut random = Random::new(seed);
+    let weights = weights(&mut random);
+    let total: usize = weights.iter().sum();
+    let high_form = random.pick(&[0, 10, 30, 90]);
+    let mut writer = Writer {
+        random,
+        out: Vec::with_capacity(len + 1024),
+        high_form,
+    };
+    while writer.out.len() < len {
+        let mut number = writer.random.below(total);
+        let mut kind = Kind::Text;
+        for (&(candidate, _), &weight) in KINDS.iter().zip(&weights) {
+            if number < weight {
+                kind = candidate;
+                break;
+            }
+            number -= weight;
+        }
+        writer.piece(kind);
+    }
+    writer.out.truncate(len);
+    writer.out
+}
+
+/// Numbers at the edges.
+const EDGES: [&str; 48] = [
+    "", "0", "1", "2", "3", "4", "5", "6", "7", "8", "9", "10", "12", "15", "20", "22", "23", "24",
+    "25", "26", "27", "34", "35", "36", "37", "40", "46", "47", "48", "49", "50", "51", "60", "78",
+    "79", "80", "81", "82", "99", "100", "255", "256", "9998", "9999", "10000", "65536", "00",
+    "01",
+];
+
+/// Numbers that are very long or oddly written.
+const ODD: [&str; 8] = [
+    "0005",
+    "00000000000000000002",
+    "99999",
+    "99990",
+    "4294967297",
+    "18446744073709551617",
+    "100000000000000000000000000000000000001",
+    "000000009999",
+];
+
+struct Writer {
+    random: Random,
+    out: Vec<u8>,
+    /// How often, of a hundred, a C1 control is written as one byte.
+    high_form: usize,
+}
+
+impl Writer {
+    fn piece(&mut self, kind: Kind) {
+        match kind {
+            Kind::Text => {
+                let length = self.random.between(1, 60);
+                self.text(length);
+            }
+            Kind::EdgeText => self.edge_text(),
+            Kind::Controls => {
+                for _ in 0..self.random.between(1, 6) {
+                    self.control();
+                }
+            }
+            Kind::HighControls => {
+                for _ in 0..self.random.between(1, 4) {
+                    let byte = self.random.byte(0x80, 0x9F);
+                    self.high_control(byte);
+                }
+            }
+            Kind::Moves => self.moves(),
+            Kind::Erases => self.erases(),
+            Kind::Edits => self.edits(),
+            Kind::Margins => self.margins(),
+            Kind::Modes => self.modes(),
+            Kind::Looks => self.looks(),
+            Kind::Tabs => self.tabs(),
+            Kind::Saves => {
+                let last = self.random.pick(b"7788");
+                self.escape(b"", last);
+            }
+            Kind::Resets => self.resets(),
+            Kind::Sets => self.sets(),
+            Kind::Queries => self.queries(),
+            Kind::Strings => self.strings(),
+            Kind::Unlisted => self.unlisted(),
+            Kind::ManyParameters => self.many_parameters(),
+            Kind::ControlsInside => self.controls_inside(),
+            Kind::HighBits => self.high_bits(),
+            Kind::Damaged => self.damaged(),
+            Kind::Cancels => self.cancels(),
+            Kind::Noise => {
+                for _ in 0..self.random.between(1, 40) {
+                    let byte = self.random.byte(0, 0xFF);
+                    self.out.push(byte);
+                }
+            }
+            Kind::ScrollScene => self.scroll_scene(),
+            Kind::EditScene => self.edit_scene(),
+            Kind::ProtectScene => self.protect_scene(),
+            Kind::WrapScene => self.wrap_scene(),
+            Kind::ShiftScene => self.shift_scene(),
+            Kind::OriginScene => self.origin_scene(),
+            Kind::EchoScene => self.echo_scene(),
+        }
+    }
+
+    // ---- Parts --------------------------------------------------------------
+
+    fn write(&mut self, bytes: &[u8]) {
+        self.out.extend_from_slice(bytes);
+    }
+
+    /// A control 80 to 9F as one byte or as an escape.
+    fn high_control(&mut self, byte: u8) {
+        if self.random.percent(self.high_form) {
+            self.out.push(byte);
+        } else {
+            self.write(&[0x1B, byte - 0x40]);
+        }
+    }
+
+    fn escape(&mut self, intermediates: &[u8], last: u8) {
+        self.out.push(0x1B);
+        self.write(intermediates);
+        self.out.push(last);
+    }
+
+    fn csi(&mut self, parameters: &str, last: &str) {
+        self.high_control(0x9B);
+        self.write(parameters.as_bytes());
+        self.write(last.as_bytes());
+    }
+
+    fn number(&mut self) -> &'static str {
+        if self.random.percent(3) {
+            self.random.pick(&ODD)
+        } else if self.random.percent(40) {
+            self.random.pick(&EDGES[..8])
+        } else {
+            self.random.pick(&EDGES)
+        }
+    }
+
+    /// One of a function's own numbers, or now and then any up to 60.
+    fn own_number(&mut self, own: &[&str]) -> String {
+        if self.random.percent(20) {
+            self.random.between(0, 60).to_string()
+        } else {
+            self.random.pick(own).to_string()
+        }
+    }
+
+    /// A few numbers, mostly one or two.
+    fn numbers(&mut self) -> String {
+        let count = self.random.pick(&[0, 1, 1, 1, 2, 2, 3]);
+        let list: Vec<&str> = (0..count).map(|_| self.number()).collect();
+        list.join(";")
+    }
+
+    /// A place on or near the page, often near an edge.
+    fn place(&mut self) {
+        let row = if self.random.percent(50) {
+            self.random.between(1, 50)
+        } else {
+            self.random
+                .pick(&[1, 1, 2, 23, 24, 25, 35, 36, 37, 47, 48, 49])
+        };
+        let column = if self.random.percent(50) {
+            self.random.between(1, 82)
+        } else {
+            self.random.pick(&[1, 1, 2, 8, 9, 77, 78, 79, 80, 80, 81])
+        };
+        let last = self.random.pick(&["H", "H", "f"]);
+        self.csi(&format!("{row};{column}"), last);
+    }
+
+    fn text(&mut self, length: usize) {
+        let style = self.random.below(6);
+        for _ in 0..length {
+            let byte = match style {
+                0 => self.random.byte(0x20, 0x7F),
+                1 => self.random.pick(b"ab "),
+                2 => self.random.byte(0x5F, 0x7E),
+                3 if self.random.percent(30) => self.random.byte(0xA0, 0xFF),
+                4 => self
+                    .random
+                    .pick(&[0x20, 0x7F, 0xA0, 0xFF, 0x21, 0x7E, 0xA1, 0xFE]),
+                _ => self.random.byte(0x61, 0x7A),
+            };
+            self.out.push(byte);
+        }
+    }
+
+    /// A control below 20, mostly one that does something.
+    fn control(&mut self) {
+        let byte = if self.random.percent(80) {
+            self.random.pick(&[
+                0x08, 0x08, 0x09, 0x0A, 0x0A, 0x0B, 0x0C, 0x0D, 0x0D, 0x0E, 0x0F,
+            ])
+        } else {
+            self.random.byte(0x00, 0x1F)
+        };
+        self.out.push(byte);
+    }
+
+    /// Any listed function, well formed.
+    fn any_listed(&mut self) {
+        match self.random.below(20) {
+            0..=3 => self.moves(),
+            4 | 5 => self.erases(),
+            6 | 7 => self.edits(),
+            8 => self.margins(),
+            9 | 10 => self.modes(),
+            11 => self.looks(),
+            12 => self.tabs(),
+            13 => {
+                let last = self.random.pick(b"78");
+                self.escape(b"", last);
+            }
+            14 => {
+                let byte = self
+                    .random
+                    .pick(&[0x84, 0x85, 0x88, 0x8D, 0x8E, 0x8F, 0x9A, 0x9C]);
+                self.high_control(byte);
+            }
+            15 => self.queries(),
+            16 if self.random.percent(30) => self.resets(),
+            17 => self.unlisted(),
+            18 => self.control(),
+            _ => self.sets(),
+        }
+    }
+
+    /// Any listed function, as bytes of its own.
+    fn any_listed_apart(&mut self) -> Vec<u8> {
+        let start = self.out.len();
+        self.any_listed();
+        self.out.split_off(start)
+    }
+
+    // ---- Functions ----------------------------------------------------------
+
+    fn moves(&mut self) {
+        match self.random.below(6) {
+            0 | 1 => self.place(),
+            2 => {
+                let numbers = self.numbers();
+                let last = self.random.pick(&["H", "f"]);
+                self.csi(&numbers, last);
+            }
+            3 => {
+                let byte = self.random.pick(&[0x84, 0x85, 0x8D, 0x8D]);
+                self.high_control(byte);
+            }
+            _ => {
+                let numbers = self.numbers();
+                let last = self.random.pick(&["A", "B", "C", "D"]);
+                self.csi(&numbers, last);
+            }
+        }
+    }
+
+    fn erases(&mut self) {
+        let selector = self
+            .random
+            .pick(&["", "0", "1", "1", "2", "3", "0;1", ";2", "00", "02"]);
+        match self.random.below(8) {
+            // Less often, for it leaves little on the page.
+            0 => self.csi(selector, "J"),
+            1 => self.csi(&format!("?{selector}"), "J"),
+            2 | 3 => self.csi(selector, "K"),
+            4 | 5 => self.csi(&format!("?{selector}"), "K"),
+            _ => {
+                let numbers = self.numbers();
+                self.csi(&numbers, "X");
+            }
+        }
+    }
+
+    fn edits(&mut self) {
+        let numbers = self.numbers();
+        let last = self.random.pick(&["L", "M", "@", "P"]);
+        self.csi(&numbers, last);
+    }
+
+    fn margins(&mut self) {
+        match self.random.below(4) {
+            0 => {
+                let numbers = self.numbers();
+                self.csi(&numbers, "r");
+            }
+            1 => self.csi("", "r"),
+            _ => {
+                let top = self.random.between(1, 24);
+                let bottom = self.random.between(top.saturating_sub(1), top + 20);
+                self.csi(&format!("{top};{bottom}"), "r");
+            }
+        }
+    }
+
+    fn modes(&mut self) {
+        let last = self.random.pick(&["h", "h", "l"]);
+        let count = self.random.pick(&[1, 1, 1, 2, 3, 5]);
+        if self.random.percent(25) {
+            let own = ["4", "4", "20", "20", "2", "12", "", "6", "7"];
+            let list: Vec<String> = (0..count).map(|_| self.own_number(&own)).collect();
+            self.csi(&list.join(";"), last);
+        } else {
+            let own = [
+                "6", "6", "7", "7", "7", "25", "1", "3", "5", "69", "", "4", "20", "00007", "10007",
+            ];
+            let list: Vec<String> = (0..count).map(|_| self.own_number(&own)).collect();
+            self.csi(&format!("?{}", list.join(";")), last);
+        }
+    }
+
+    fn looks(&mut self) {
+        if self.random.percent(35) {
+            let own = ["1", "1", "1", "0", "2", "", "3", "1;0", ";1"];
+            let selector = self.own_number(&own);
+            self.csi(&selector, "\"q");
+        } else {
+            let own = [
+                "0", "", "1", "4", "5", "7", "22", "24", "25", "27", "2", "3", "8", "21", "28",
+                "9999",
+            ];
+            let count = self.random.pick(&[0, 1, 1, 2, 3, 6]);
+            let list: Vec<String> = (0..count).map(|_| self.own_number(&own)).collect();
+            self.csi(&list.join(";"), "m");
+        }
+    }
+
+    fn tabs(&mut self) {
+        match self.random.below(10) {
+            8 | 9 => {
+                self.place();
+                self.high_control(0x88);
+                let selector = self
+                    .random
+                    .pick(&["?", "?3", ">", ">3", "?0", "3 ", "1", "2"]);
+                self.csi(selector, "g");
+                self.write(b"\r\t\t");
+            }
+            0..=2 => {
+                if self.random.percent(60) {
+                    self.place();
+                }
+                self.high_control(0x88);
+            }
+            3 => self.csi("3", "g"),
+            4 | 5 => {
+                let selector = self.random.pick(&["", "0", "1", "2", "0;3", ";3", "5"]);
+                self.csi(selector, "g");
+            }
+            _ => {
+                let count = self.random.between(1, 12);
+                self.write(&vec![0x09; count]);
+            }
+        }
+    }
+
+    fn resets(&mut self) {
+        match self.random.below(8) {
+            0 => self.escape(b"", b'c'),
+            1 | 2 => self.escape(b"#", b'8'),
+            3 => {
+                let last = self.random.byte(0x30, 0x39);
+                self.escape(b"#", last);
+            }
+            _ => {
+                let parameters = self.random.pick(&["", "", "0", "1;2"]);
+                self.csi(parameters, "!p");
+            }
+        }
+    }
+
+    fn sets(&mut self) {
+        match self.random.below(10) {
+            0..=2 => {
+                let slot = self.random.pick(b"()*+");
+                let set: &[u8] = self
+                    .random
+                    .pick(&[b"B", b"0", b"0", b"%5", b"A", b"<", b"%0"]);
+                self.escape(&[slot], set[0]);
+                if set.len() > 1 {
+                    self.out.push(set[1]);
+                }
+            }
+            3 | 4 => {
+                let slot = self.random.pick(b"-./");
+                let set = self.random.pick(b"AAAAB0F");
+                self.escape(&[slot], set);
+            }
+            5 => {
+                let last = self.random.pick(b"no~}|");
+                self.escape(b"", last);
+            }
+            6 => {
+                let byte = self.random.pick(&[0x0E, 0x0F]);
+                self.out.push(byte);
+            }
+            7 => {
+                let last = self.random.pick(b"FGGH");
+                self.escape(b" ", last);
+            }
+            _ => {
+                let byte = self.random.pick(&[0x8E, 0x8F]);
+                self.high_control(byte);
+            }
+        }
+    }
+
+    fn queries(&mut self) {
+        match self.random.below(8) {
+            0 => {
+                let parameters = self
+                    .random
+                    .pick(&["", "0", "1", ";1", "0;0", ">", ">0", ">1", "=", "?"]);
+                self.csi(parameters, "c");
+            }
+            1 => self.high_control(0x9A),
+            2 => {
+                let last = self.random.pick(b"FG");
+                self.escape(b" ", last);
+                self.csi("6", "n");
+            }
+            3 => self.csi("?6", "n"),
+            4 => self.csi("6", "n"),
+            _ => {
+                let parameters = self.random.pick(&[
+                    "5", "6", "?6", "?15", "?5", "15", "", "0", "?", ">6", "6;5", "5;6", ";6",
+                    "?15;6", "0006", "?00015",
+                ]);
+                self.csi(parameters, "n");
+            }
+        }
+    }
+
+    // ---- Odd sequences ------------------------------------------------------
+
+    fn strings(&mut self) {
+        let opener = self.random.pick(&[0x90, 0x98, 0x9D, 0x9E, 0x9F]);
+        self.high_control(opener);
+        for _ in 0..self.random.between(0, 30) {
+            // Nothing that closes a string.
+            let byte = match self.random.below(6) {
+                0 => self.random.byte(0x00, 0x17),
+                1 => self.random.byte(0xA0, 0xFF),
+                2 => self
+                    .random
+                    .pick(&[0x07, 0x19, 0x1C, 0x1D, 0x1E, 0x1F, 0x7F]),
+                _ => self.random.byte(0x20, 0x7F),
+            };
+            self.out.push(byte);
+        }
+        match self.random.below(9) {
+            0 => self.out.push(0x18),
+            1 => self.out.push(0x1A),
+            2 => self.out.push(0x9C),
+            3 | 4 => self.write(b"\x1B\\"),
+            5 => self.write(&[0x1B, 0xDC]),
+            6 => {
+                let byte = self.random.byte(0x80, 0x9F);
+                self.out.push(byte);
+            }
+            7 => self.any_listed(),
+            _ => {}
+        }
+    }
+
+    fn unlisted(&mut self) {
+        if self.random.percent(30) {
+            let count = self.random.pick(&[0, 0, 1, 1, 2, 3, 5]);
+            let intermediates: Vec<u8> = (0..count).map(|_| self.random.byte(0x20, 0x2F)).collect();
+            let last = self.random.byte(0x30, 0x7E);
+            // Seldom the one that makes all fresh.
+            if last == b'c' && intermediates.is_empty() && self.random.percent(80) {
+                return;
+            }
+            self.escape(&intermediates, last);
+            return;
+        }
+        if self.random.percent(25) {
+            self.listed_with_too_much();
+            return;
+        }
+        self.high_control(0x9B);
+        if self.random.percent(40) {
+            let mark = self.random.byte(0x3C, 0x3F);
+            self.out.push(mark);
+            if self.random.percent(20) {
+                let second = self.random.pick(&[0x3F, 0x3F, 0x3C, 0x3E, mark]);
+                self.out.push(second);
+            }
+        }
+        let numbers = self.numbers();
+        self.write(numbers.as_bytes());
+        if self.random.percent(15) {
+            // A mark elsewhere, or 3A.
+            let byte = self.random.byte(0x3A, 0x3F);
+            self.out.push(byte);
+            let numbers = self.numbers();
+            self.write(numbers.as_bytes());
+        }
+        for _ in 0..self.random.pick(&[0, 0, 0, 1, 1, 2, 3, 4]) {
+            let byte = self.random.byte(0x20, 0x2F);
+            self.out.push(byte);
+        }
+        if self.random.percent(15) {
+            // A digit or 3B after an intermediate, or after what came before.
+            let byte = self.random.pick(b"0123456789;;;");
+            self.out.push(byte);
+        }
+        let last = if self.random.percent(50) {
+            self.random.pick(b"ABCDHfJKXLM@Pghlmnqrpc")
+        } else {
+            self.random.byte(0x40, 0x7E)
+        };
+        self.out.push(last);
+    }
+
+    /// A listed final with a likely parameter, and a mark or an intermediate
+    /// that makes another sequence of most of them.
+    fn listed_with_too_much(&mut self) {
+        let marked = self.random.percent(60);
+        let parameter = self
+            .random
+            .pick(&["", "0", "1", "2", "3", "4", "5", "6", "7", "20"]);
+        let last = self.random.pick(b"ABCDHfJKXLM@Pghlmnqrpc");
+        self.high_control(0x9B);
+        if marked {
+            let mark = self.random.byte(0x3C, 0x3F);
+            self.out.push(mark);
+            if self.random.percent(30) {
+                self.out.push(0x3F);
+            }
+        }
+        self.write(parameter.as_bytes());
+        if !marked || self.random.percent(20) {
+            let intermediate = self.random.pick(b" !\"#$'*+");
+            self.out.push(intermediate);
+        }
+        self.out.push(last);
+        if last == b'g' && self.random.percent(70) {
+            self.write(b"\r\t\t");
+        }
+    }
+
+    fn many_parameters(&mut self) {
+        let count = self.random.pick(&[14, 15, 16, 16, 17, 17, 18, 30, 60]);
+        let choice = self.random.below(5);
+        let list: Vec<&str> = (0..count)
+            .map(|_| match choice {
+                0 => self
+                    .random
+                    .pick(&["1", "4", "5", "7", "22", "24", "25", "27", "0", ""]),
+                1 | 2 => self.random.pick(&["6", "7", "25", "0", "", "9999"]),
+                3 => self.random.pick(&["4", "20", "", "1"]),
+                _ => self.number(),
+            })
+            .collect();
+        let joined = list.join(";");
+        match choice {
+            0 => self.csi(&joined, "m"),
+            1 => self.csi(&format!("?{joined}"), "h"),
+            2 => self.csi(&format!("?{joined}"), "l"),
+            3 => self.csi(&joined, "h"),
+            _ => {
+                let last = self
+                    .random
+                    .pick(&["H", "A", "r", "m", "h", "l", "n", "J", "X"]);
+                self.csi(&joined, last);
+            }
+        }
+    }
+
+    /// A listed function with controls and 7F between its bytes.
+    fn controls_inside(&mut self) {
+        let bytes = self.any_listed_apart();
+        for byte in bytes {
+            self.out.push(byte);
+            if self.random.percent(35) {
+                if self.random.percent(30) {
+                    let skipped = self.random.pick(&[0x7F, 0xFF]);
+                    self.out.push(skipped);
+                } else {
+                    self.control();
+                }
+            }
+        }
+    }
+
+    /// A listed function with the top bit set in some bytes after the first.
+    fn high_bits(&mut self) {
+        let bytes = self.any_listed_apart();
+        let often = self.random.pick(&[20, 50, 100]);
+        for (number, byte) in bytes.into_iter().enumerate() {
+            let raise = number > 0 && byte >= 0x20 && self.random.percent(often);
+            self.out.push(if raise { byte | 0x80 } else { byte });
+        }
+    }
+
+    /// A few functions with bytes put in, left out, changed or cut off.
+    fn damaged(&mut self) {
+        let mut bytes = Vec::new();
+        for _ in 0..self.random.between(1, 3) {
+            bytes.extend(self.any_listed_apart());
+        }
+        for _ in 0..self.random.between(1, 3) {
+            if bytes.is_empty() {
+                break;
+            }
+            let place = self.random.below(bytes.len());
+            match self.random.below(5) {
+                0 => {
+                    let byte = self.random.byte(0x00, 0xFF);
+                    bytes.insert(place, byte);
+                }
+                1 => {
+                    bytes.remove(place);
+                }
+                2 => bytes[place] ^= 1 << self.random.below(8),
+                3 => bytes[place] = self.random.byte(0x00, 0xFF),
+                _ => bytes.truncate(place),
+            }
+        }
+        self.write(&bytes);
+    }
+
+    /// Part of a function, then CAN, SUB, or the start of something else.
+    fn cancels(&mut self) {
+        let bytes = self.any_listed_apart();
+        let kept = self.random.between(0, bytes.len());
+        self.write(&bytes[..kept]);
+        let byte = self
+            .random
+            .pick(&[0x18, 0x18, 0x1A, 0x1A, 0x1A, 0x1B, 0x9B, 0x9C, 0x80]);
+        self.out.push(byte);
+        if self.random.percent(50) {
+            self.write(&bytes[kept..]);
+        }
+    }
+
+    // ---- Scenes -------------------------------------------------------------
+
+    fn edge_text(&mut self) {
+        if self.random.percent(40) {
+            let last = self.random.pick(&["h", "h", "h", "l"]);
+            self.csi("?7", last);
+        }
+        let row = self.random.pick(&[1, 5, 22, 23, 24, 25, 35, 36, 47, 48]);
+        let column = self.random.between(74, 81);
+        self.csi(&format!("{row};{column}"), "H");
+        let length = self.random.between(1, 12);
+        self.text(length);
+    }
+
+    fn scroll_scene(&mut self) {
+        let top = self.random.between(1, 23);
+        let bottom = self.random.between(top + 1, (top + 12).min(24));
+        self.csi(&format!("{top};{bottom}"), "r");
+        if self.random.percent(50) {
+            let last = self.random.pick(&["h", "h", "l"]);
+            self.csi("?6", last);
+        }
+        for _ in 0..self.random.between(2, 10) {
+            match self.random.below(9) {
+                0 | 1 => {
+                    let row =
+                        self.random
+                            .pick(&[top, bottom, 1, bottom + 1, 24, 2, bottom - top + 1]);
+                    let column = self.random.between(1, 80);
+                    self.csi(&format!("{row};{column}"), "H");
+                }
+                2 | 3 => {
+                    let byte = self.random.pick(&[0x0A, 0x0B, 0x0C]);
+                    self.out.push(byte);
+                }
+                4 | 5 => self.high_control(0x8D),
+                6 => {
+                    let byte = self.random.pick(&[0x84, 0x85]);
+                    self.high_control(byte);
+                }
+                _ => {
+                    let length = self.random.between(1, 8);
+                    self.text(length);
+                }
+            }
+        }
+    }
+
+    fn edit_scene(&mut self) {
+        if self.random.percent(30) {
+            self.margins();
+        }
+        if self.random.percent(30) {
+            let last = self.random.pick(&["h", "l"]);
+            self.csi("4", last);
+        }
+        for _ in 0..self.random.between(2, 8) {
+            match self.random.below(6) {
+                0 | 1 => self.edits(),
+                2 => self.place(),
+                3 => {
+                    let count = self.random.between(1, 5).to_string();
+                    let last = self.random.pick(&["L", "M", "@", "P", "X"]);
+                    self.csi(&count, last);
+                }
+                _ => {
+                    let length = self.random.between(1, 10);
+                    self.text(length);
+                }
+            }
+        }
+    }
+
+    fn protect_scene(&mut self) {
+        for _ in 0..self.random.between(2, 8) {
+            match self.random.below(6) {
+                0 => {
+                    let selector = self.random.pick(&["1", "1", "0", "2", ""]);
+                    self.csi(selector, "\"q");
+                }
+                1 => self.place(),
+                2 => {
+                    let selector = self.random.pick(&["", "0", "1", "2"]);
+                    let last = self.random.pick(&["J", "K", "K"]);
+                    self.csi(&format!("?{selector}"), last);
+                }
+                3 => self.looks(),
+                _ => {
+                    let length = self.random.between(1, 20);
+                    self.text(length);
+                }
+            }
+        }
+    }
+
+    /// Wrap due, then anything, then a sign.
+    fn wrap_scene(&mut self) {
+        self.csi("?7", "h");
+        if self.random.percent(30) {
+            self.margins();
+        }
+        let row = self.random.pick(&[1, 2, 10, 23, 24, 24, 25, 36, 48]);
+        let column = self.random.pick(&[78, 79, 80, 80, 80]);
+        self.csi(&format!("{row};{column}"), "H");
+        self.text(81 - column);
+        for _ in 0..self.random.between(0, 2) {
+            match self.random.below(8) {
+                6 => {
+                    let ignored = self
+                        .random
+                        .pick(&["24;24r", "9;3r", "50r", "4J", "3K", "?3K", "9g", "3\"q"]);
+                    self.csi(ignored, "");
+                }
+                7 => self.unlisted(),
+                0 => self.any_listed(),
+                1 => self.control(),
+                2 => {
+                    let byte = self.random.byte(0x80, 0x9F);
+                    self.high_control(byte);
+                }
+                3 => {
+                    let parameters = self.random.pick(&["", "0", "1", "2", "9"]);
+                    let last = self.random.byte(0x40, 0x7E);
+                    self.high_control(0x9B);
+                    self.write(parameters.as_bytes());
+                    self.out.push(last);
+                }
+                4 => self.write(b"\x1B7\x1B[5;5H\x1B8"),
+                _ => {
+                    let byte = self.random.pick(&[0x7F, 0xFF, 0xA0, 0x18, 0x1A, 0x20]);
+                    self.out.push(byte);
+                }
+            }
+        }
+        let length = self.random.between(0, 4);
+        self.text(length);
+    }
+
+    /// The same line again and again at the bottom margin: each wrap changes
+    /// the row and the sign changes it back.
+    fn echo_scene(&mut self) {
+        let height = self.random.between(1, 4);
+        let top = self.random.between(1, 24 - height);
+        let margins = format!("{};{}", top, top + height);
+        self.csi(&margins, "r");
+        self.csi("?7", "h");
+        self.csi("4", "l");
+        self.csi("", "m");
+        self.csi("", "\"q");
+        self.csi(&format!("{}", top + height), "H");
+        self.csi("2", "K");
+        let sign = self.random.pick(b"ABx\x1A");
+        self.out.push(sign);
+        for _ in 0..self.random.between(2, 30) {
+            self.csi("80", "C");
+            self.write(&[b' ', sign]);
+        }
+        if self.random.percent(70) {
+            self.csi("", "r");
+        }
+    }
+
+    fn shift_scene(&mut self) {
+        for _ in 0..self.random.between(1, 3) {
+            self.sets();
+        }
+        let byte = self.random.pick(&[0x8E, 0x8F]);
+        self.high_control(byte);
+        for _ in 0..self.random.between(0, 3) {
+            let byte = self
+                .random
+                .pick(&[0x7F, 0xFF, 0xA0, 0x1A, 0x18, 0x20, 0x0A, 0x0E, 0x0F, 0xC1]);
+            self.out.push(byte);
+        }
+        if self.random.percent(25) {
+            let between: &[u8] = self.random.pick(&[
+                &b"\x1B[!p"[..],
+                b"\x1B7\x1B8",
+                b"\x1B8",
+                b"\x1B[m",
+                b"\x1BP\x1B\\",
+                b"\x1B[:m",
+            ]);
+            self.write(between);
+        }
+        let length = self.random.between(1, 4);
+        self.text(length);
+    }
+
+    fn origin_scene(&mut self) {
+        self.margins();
+        let last = self.random.pick(&["h", "h", "h", "l"]);
+        self.csi("?6", last);
+        for _ in 0..self.random.between(1, 6) {
+            match self.random.below(6) {
+                0 => self.place(),
+                1 => {
+                    let numbers = self.numbers();
+                    let last = self.random.pick(&["A", "B", "H", "f", "r"]);
+                    self.csi(&numbers, last);
+                }
+                2 => {
+                    let last = self.random.pick(b"78");
+                    self.escape(b"", last);
+                }
+                3 => {
+                    let parameters = self.random.pick(&["6", "?6"]);
+                    self.csi(parameters, "n");
+                }
+                4 => self.margins(),
+                _ => {
+                    let length = self.random.between(1, 5);
+                    self.text(length);
+                }
+            }
+        }
+    }
+}
+
+#[cfg(test)]
+mod tests {
+    use super::*;
+
+    #[test]
+    fn a_stream_has_its_length_and_depends_on_its_seed_alone() {
+        for seed in 0..50 {
+            for len in [0, 1, 2, 100, 5_000] {
+                let bytes = stream(seed, len);
+                assert_eq!(bytes.len(), len);
+                assert_eq!(bytes, stream(seed, len));
+            }
+        }
+        assert_ne!(stream(1, 100), stream(2, 100));
+    }
+}

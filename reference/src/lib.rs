@@ -1,0 +1,31 @@
+//! A plain reference program for the VT420 console reader.
+//!
+//! It is written from the specification ("document 01") alone, and is slow on
+//! purpose: during a call the page is rows of unpacked cells; every step makes
+//! a whole new page; the rows that a step changed are found by comparing the
+//! whole page before it with the whole page after it.
+//!
+//! * `cell`: one cell and its word.
+//! * `page`: the rows of cells, and what can be done to them.
+//! * `state`: everything between two calls but the page; fresh and whole.
+//! * `parser`: from bytes to signs, controls and finished sequences.
+//! * `functions`: what each of these does; steps.
+//! * `reply`: the texts that are sent back.
+//! * `calls`: the four calls with their answers.
+//! * `text`: the page as text.
+//! * `grammar`: seeded hostile byte streams for comparing.
+
+pub mod calls;
+pub mod cell;
+pub mod functions;
+pub mod grammar;
+pub mod page;
+pub mod parser;
+pub mod reply;
+pub mod state;
+pub mod text;
+
+pub use calls::{ask, feed, read_cell, start};
+pub use parser::Parser;
+pub use state::{is_whole, Cursor, Saved, Sets, Slot, State};
+pub use text::text;

@@ -1,0 +1,126 @@
+//! Long streams: what must hold whatever the bytes are.
+
+mod common;
+use common::Console;
+use reference::grammar::{stream, Random};
+use reference::*;
+
+/// At once, byte by byte, and in pieces with little room: the same.
+#[test]
+fn cutting_makes_no_difference() {
+    for seed in 0..60 {
+        let rows = [24, 36, 48][seed as usize % 3];
+        let bytes = stream(seed, 4_000);
+        let whole = Console::of(rows).feed(&bytes);
+        assert!(is_whole(&whole.state));
+
+        let mut single = Console::of(rows);
+        for byte in &bytes {
+            single.more(&[*byte]);
+        }
+        assert_eq!(single.page, whole.page);
+        assert_eq!(single.state, whole.state);
+        assert_eq!(single.replies, whole.replies);
+
+        let mut random = Random::new(seed);
+        let mut pieces = Console::of(rows);
+        let mut rest = &bytes[..];
+        while !rest.is_empty() {
+            let length = random.between(1, 200).min(rest.len());
+            let room = random.between(11, 20);
+            let mut reply = vec![0xEE; room];
+            let (answer, read, replied, state) =
+                feed(&pieces.state, &mut pieces.page, &rest[..length], &mut reply);
+            assert!(answer == 0 && read == length || answer == 3 && read < length);
+            assert!(read > 0);
+            assert!(reply[replied..].iter().all(|&byte| byte == 0xEE));
+            pieces.replies.extend_from_slice(&reply[..replied]);
+            pieces.state = state;
+            rest = &rest[read..];
+        }
+        assert_eq!(pieces.page, whole.page);
+        assert_eq!(pieces.state, whole.state);
+        assert_eq!(pieces.replies, whole.replies);
+    }
+}
+
+/// Every row that differs between two askings is reported.
+#[test]
+fn no_change_is_missed() {
+    for seed in 100..160 {
+        let rows = [24, 36, 48][seed as usize % 3];
+        let bytes = stream(seed, 6_000);
+        let mut c = Console::of(rows);
+        for piece in bytes.chunks(37) {
+            let before = c.page.clone();
+            c.more(piece);
+            let reported = c.ask();
+            for row in 1..=rows {
+                let cells = 80 * (row - 1)..80 * row;
+                if before[cells.clone()] != c.page[cells] {
+                    assert!(reported.contains(&row));
+                }
+            }
+        }
+    }
+}
+
+/// Any words found in the cells, unused bits and all.
+#[test]
+fn any_word_is_accepted() {
+    for seed in 200..230 {
+        let mut random = Random::new(seed);
+        let mut c = Console::new();
+        for word in &mut c.page {
+            *word = random.next() as u16;
+        }
+        for piece in stream(seed, 4_000).chunks(50) {
+            c.more(piece);
+        }
+        assert_eq!(text(&c.page).iter().filter(|&&b| b == b'\n').count(), 24);
+    }
+}
+
+/// The streams reach what they are for.
+#[test]
+fn streams_reach_the_edges() {
+    let mut seen = [0usize; 20];
+    for seed in 0..120 {
+        let rows = [24, 36, 48][seed as usize % 3];
+        let mut c = Console::of(rows);
+        for byte in stream(seed, 3_000) {
+            let before = c.state.clone();
+            let replies = c.replies.len();
+            c.more(&[byte]);
+            let s = &c.state;
+            let inner = s.top > 1 && s.bottom < s.rows;
+            let facts = [
+                s.cursor.wrap_due,
+                before.cursor.wrap_due && !s.cursor.wrap_due && s.cursor.column == 2,
+                s.cursor.wrap_due && s.cursor.row == s.rows,
+                inner,
+                inner && s.origin,
+                inner && s.cursor.row < s.top,
+                inner && s.cursor.row > s.bottom,
+                s.insert,
+                s.newline,
+                s.protection,
+                s.shift.is_some(),
+                s.eight_bit_replies,
+                s.saved.cursor.wrap_due && !s.autowrap,
+                s.saved.origin,
+                c.replies.len() > replies,
+                s.changed.len() > 12,
+                matches!(s.parser, Parser::ControlIgnored),
+                matches!(s.parser, Parser::EscapeIgnored),
+                matches!(s.parser, Parser::String),
+                matches!(&s.parser, Parser::Control { dropping: true, .. }),
+            ];
+            for (count, fact) in seen.iter_mut().zip(facts) {
+                *count += fact as usize;
+            }
+        }
+    }
+    println!("{seen:?}");
+    assert!(seen.iter().all(|&count| count > 200), "{seen:?}");
+}
