@@ -42,7 +42,7 @@ loop-again c =
     let k : ℕ = l .loop .k - 1 in (
       omega arith,
       omega arith,
-      block-down R (m .move-row .ensures)
+      block-down {f = λ j. overlaid (row (l .loop .page) j) (a .left) (a .right) (row (l .loop .page) (k - a .count))} R (m .move-row .ensures)
           (ap₂ (λ (x y : List ℕ). overlaid x (a .left) (a .right) y) (block-old R k (inl (omega arith))) (block-old R (k - a .count) (inl (omega arith))))
           (omega arith) (l .loop .inv .1),
     )

@@ -42,7 +42,7 @@ loop-again c =
     let k : ℕ = l .loop .k in (
       omega arith,
       omega arith,
-      block-up R (m .move-row .ensures)
+      block-up {f = λ j. overlaid (row (l .loop .page) j) (a .left) (a .right) (row (l .loop .page) (k + a .count))} R (m .move-row .ensures)
           (ap₂ (λ (x y : List ℕ). overlaid x (a .left) (a .right) y) (block-old R k (inr (omega arith))) (block-old R (k + a .count) (inr (omega arith))))
           refl (l .loop .inv .0),
     )
