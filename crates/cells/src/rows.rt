@@ -77,9 +77,10 @@ pub fn lower_rows(page: &mut [u16], top: u8, end: u8, left: u8, right: u8, count
         (λ j. overlaid (row (now (page .entry)) j) left right (row (now (page .entry)) (j - count))) r ⌝ }
 {
     let mut bits = 0;
-    let mut k = end;
-    while top < k {
-        k -= 1;
+    let mut rest = end - top;
+    while 0 < rest {
+        rest -= 1;
+        let k = top + rest;
         bits |= move_row(page, k, k - count, left, right);
     }
     bits

@@ -1,4 +1,4 @@
--- Rows from `top` to `k` are done. The row that row k takes is not done yet, since the loop goes upward and takes from below.
+-- Rows from `top` to `k` are done. The row that row k takes is not done yet, since the loop goes from the first row to the last and takes from below.
 use borrow.Author.Needs.{needs}
 use mathlib.Core.Path.{refl, ap₂}
 use mathlib.Core.List.{List}
