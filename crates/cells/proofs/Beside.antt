@@ -1,20 +1,20 @@
 -- Two pastes that lie side by side are one, and what they report together is what it would. So cells that move within a row are one change of the row.
 use mathlib.Core.Path.{_≡_, refl, sym, ap, ap₂, subst, _∙_}
-use mathlib.Core.Bool.{Bool, true, false, not, _||_, or-false, or-assoc, or-comm}
+use mathlib.Core.Bool.{Bool, true, false, not, _||_, or-false}
 use mathlib.Core.List.{List, [], _∷_, _++_}
 use mathlib.Core.Logic.{_⊎_, inl, inr, ⊎-elim}
-use Prim.Native.Nat.{ℕ, zero, suc, _+_, _-_, _*_, _^_, _≤_, _<_}
+use Prim.Native.Nat.{ℕ, suc, _+_, _-_, _*_, _^_, _≤_, _<_}
 use native.Mathlib.Omega.{arith}
 use lib.Dec.{eqb}
-use lib.ListN.{length, getD, take, drop, set, replicate, length-take, length-drop, length-append, length-replicate, List·getD-append}
-use lib.Seq.{paste, length-paste, length-take-le, take-all, take-append-add, drop-cons, getD-take, getD-append-add}
+use lib.ListN.{length, getD, take, drop, set, replicate, length-drop, length-append, length-replicate, List·getD-append}
+use lib.Seq.{paste, length-paste, length-take-le, take-append-add, drop-cons, getD-take, getD-append-add}
 use borrow.Author.Tests.{eq-eqb}
 use Rattle.cells.specs.Cells.{bit, blank}
 use Rattle.cells.specs.Rows.{row, differs}
 use Rattle.cells.specs.declared.Edit.the-variants.{Put, InsertCells, DeleteCells}
 use Rattle.cells.specs.Edits.{inserted, deleted, after}
 use Rattle.cells.specs.Writes.{Pasted, Edited, BlockFits}
-use Rattle.cells.proofs.Lists.{split-lt, paste-inside, paste-outside, differs-self}
+use Rattle.cells.proofs.Lists.{split-lt, paste-inside, paste-outside}
 use Rattle.cells.proofs.Parts.{length-row, set-paste, inserted-paste, deleted-paste}
 use Rattle.cells.proofs.Redoing.{differs-paste, part-of-row, paste-ext, redone-part, redone-as}
 use Rattle.cells.proofs.Storing.{Stored, stored-all}

@@ -1,14 +1,14 @@
 -- Laws of sets of rows and their bits.
-use mathlib.Core.Path.{_≡_, refl, sym, ap, ap₂, _∙_, subst}
-use mathlib.Core.Bool.{Bool, true, false, not, cond, _||_, _&&_}
+use mathlib.Core.Path.{_≡_, refl, sym, ap, ap₂, _∙_}
+use mathlib.Core.Bool.{Bool, true, false, not, _||_, _&&_}
 use mathlib.Core.Logic.{⊎-elim}
 use borrow.Author.Tests.{eq-eqb, ne-eqb, eqb-true, eqb-false}
-use Prim.Native.Nat.{ℕ, zero, suc, _+_, _-_, _*_, _/_, _%_, _^_, _≤_, _<_, zero-le, suc-le-suc}
-use native.Mathlib.Nat.{le-refl, pow-suc, mul-comm, zero-add, add-zero, zero-mul, one-mul, eq-or-lt-of-le, le-of-suc-le-suc, mul-assoc, add-comm, add-mul-div-right, mul-add-mod-self-right, mod-lt, mod-eq-of-lt, mod-one}
+use Prim.Native.Nat.{ℕ, zero, suc, _+_, _-_, _*_, _/_, _%_, _^_, _<_}
+use native.Mathlib.Nat.{le-refl, pow-suc, mul-comm, zero-add, add-zero, zero-mul, eq-or-lt-of-le, le-of-suc-le-suc, mul-assoc, add-comm, add-mul-div-right, mul-add-mod-self-right, mod-lt, mod-eq-of-lt, mod-one}
 use native.Mathlib.Omega.{arith}
 use lib.Dec.{eqb, lit<}
 use lib.Bits.{bitOr, or-block}
-use lib.Count.{ones, onesIn, ones-cat}
+use lib.Count.{ones, ones-cat}
 use lib.Arith.{digits-lt, digits-div, mod-mul}
 use lib.Pow.{pow-pos, pow-add}
 use Rattle.cells.specs.Cells.{bit}

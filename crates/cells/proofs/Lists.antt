@@ -3,14 +3,14 @@ use mathlib.Core.Path.{_≡_, refl, sym, ap, ap₂, _∙_}
 use mathlib.Core.Bool.{Bool, true, false, not, _||_, false≢true, or-false, or-assoc}
 use mathlib.Core.List.{List, [], _∷_, _++_, map, append-assoc, append-nil}
 use mathlib.Core.Logic.{_⊎_, inl, inr, ⊎-elim}
-use Prim.Native.Nat.{ℕ, zero, suc, _+_, _-_, _*_, _≤_, _<_}
+use Prim.Native.Nat.{ℕ, zero, suc, _+_, _-_, _≤_, _<_}
 use native.Mathlib.Nat.{zero-add, le-of-eq}
 use native.Mathlib.Numerals.{add-one}
 use native.Mathlib.Omega.{arith}
-use lib.Dec.{eqb, ltb}
-use lib.ListN.{length, getD, take, drop, replicate, length-take, length-replicate, length-append, List·getD-append}
-use lib.Seq.{paste, length-paste-head, drop-paste, getD-drop, getD-take, getD-append-add, take-suc, take-all, drop-length}
-use borrow.Author.Tests.{eq-eqb, ltb-true, ltb-false, eqb-true, eqb-false}
+use lib.Dec.{eqb, leb, ltb}
+use lib.ListN.{length, getD, take, drop, replicate, length-take, length-replicate, List·getD-append}
+use lib.Seq.{paste, drop-paste, getD-drop, getD-take, getD-append-add, take-suc, take-all, drop-length}
+use borrow.Author.Tests.{eq-eqb, leb-true, leb-false, ltb-true, ltb-false, eqb-true, eqb-false}
 use Rattle.cells.specs.Rows.{differs}
 
 -- ---- a number is below another or not, and equal to it or not
@@ -28,6 +28,21 @@ split-eq a b = go (eqb a b) refl
     go : (t : Bool) → eqb a b ≡ t → (a ≡ b) ⊎ (a ≡ b → ⊥)
     go true e = inl (eqb-true a b e)
     go false e = inr (eqb-false a b e)
+
+-- what a joined test says
+pub either-leb : (a b c d : ℕ) → (leb a b || leb c d) ≡ true → (a ≤ b) ⊎ (c ≤ d)
+either-leb a b c d = go (leb a b) refl
+  where
+    go : (t : Bool) → leb a b ≡ t → (t || leb c d) ≡ true → (a ≤ b) ⊎ (c ≤ d)
+    go true e h = inl (leb-true a b e)
+    go false e h = inr (leb-true c d h)
+
+pub neither-leb : (a b c d : ℕ) → (leb a b || leb c d) ≡ false → b < a
+neither-leb a b c d = go (leb a b) refl
+  where
+    go : (t : Bool) → leb a b ≡ t → (t || leb c d) ≡ false → b < a
+    go true e h = absurd (false≢true (sym h))
+    go false e h = leb-false a b e
 
 -- ---- a paste, place by place
 

@@ -1,20 +1,20 @@
 -- Each row after an edit is the row before it with one part replaced, and that part is the edit's target there.
 use mathlib.Core.Path.{_≡_, refl, sym, ap, ap₂, _∙_}
-use mathlib.Core.Bool.{Bool, true, false, cond, _&&_, true≢false}
+use mathlib.Core.Bool.{Bool, true, false, cond, _&&_}
 use mathlib.Core.List.{List, [], _∷_, _++_, append-assoc, map}
 use mathlib.Core.Logic.{_⊎_, inl, inr, ⊎-elim}
-use Prim.Native.Nat.{ℕ, zero, suc, _+_, _-_, _*_, _≤_, _<_, min}
+use Prim.Native.Nat.{ℕ, suc, _+_, _-_, _*_, _≤_, _<_}
 use native.Mathlib.Numerals.{add-one}
 use native.Mathlib.Omega.{arith}
 use lib.Dec.{eqb, leb, ltb}
 use lib.ListN.{length, getD, take, drop, set, replicate, length-take, length-drop, length-append, length-map, length-replicate}
 use lib.Seq.{paste, paste-zero, length-paste, length-take-le, take-append-add, take-all, set-split, append-snoc}
-use borrow.Author.Tests.{leb-true, leb-false, ltb-true, ltb-false, eqb-true, eqb-false}
+use borrow.Author.Tests.{leb-true, leb-false, ltb-true, ltb-false, eqb-false}
 use Rattle.cells.specs.declared.Edit.{Edit}
 use Rattle.cells.specs.declared.Edit.the-variants.{Keep, Put, InsertCells, DeleteCells, ScrollUp, ScrollDown, Fill, SelectiveErase}
 use Rattle.cells.specs.Cells.{blank, selectivelyErased}
 use Rattle.cells.specs.Rows.{row}
-use Rattle.cells.specs.Edits.{blankRow, inserted, deleted, overlaid, runStart, runLength, after, between, target, Within, CellsFit, RowsFit, RunFits}
+use Rattle.cells.specs.Edits.{blankRow, inserted, deleted, overlaid, runStart, runLength, after, between, target, Within}
 use Rattle.cells.proofs.Lists.{split-lt, paste-outside}
 
 pub length-row : (p : List ℕ) (k : ℕ) → 80 * k + 80 ≤ length p → length (row p k) ≡ 80

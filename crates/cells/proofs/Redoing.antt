@@ -8,11 +8,10 @@ use native.Mathlib.Omega.{arith}
 use lib.Dec.{eqb}
 use lib.Bits.{bitOr}
 use lib.ListN.{length, getD, take, drop, length-take, length-drop, length-append, take-append-drop}
-use lib.Seq.{paste, length-paste, take-add, length-take-le, getD-take, getD-drop, ext-getD}
+use lib.Seq.{paste, length-paste, take-add, getD-take, getD-drop, ext-getD}
 use borrow.Author.Tests.{eq-eqb, ne-eqb}
 use Rattle.cells.specs.Cells.{bit}
 use Rattle.cells.specs.Rows.{row, differs}
-use Rattle.cells.specs.Sets.{bitsOf, changed}
 use Rattle.cells.specs.declared.Edit.{Edit}
 use Rattle.cells.specs.Edits.{overlaid, after}
 use Rattle.cells.specs.Writes.{Pasted, Redone, Edited, BlockFits, Fits, Applied}

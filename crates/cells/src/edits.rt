@@ -1,4 +1,4 @@
-// Edits: one function for each, and `apply` for any. They alone write a page.
+// Edits: one function for each, and `apply` for any. Nothing outside this crate writes a page.
 use crate::Edit;
 use crate::marks::row_bit;
 use crate::rows::erase_row;
@@ -121,7 +121,8 @@ fn selective_erase(page: &mut [u16], from: u16, to: u16) -> u64
     bits
 }
 
-// Applies an edit to a page of `rows` rows, and hands back the bits of the rows that it changed.
+// Applies an edit to a page of `rows` rows, and hands back the bits of the rows that it changed. Each
+// function goes by the edit's own numbers, so `rows` is there for the promise alone.
 pub fn apply(edit: Edit, page: &mut [u16], rows: u8) -> u64
     requires { ⌜ Fits rows edit (now page) ⌝ }
     ensures { λ r. ⌜ Applied rows edit (now (page .entry)) (now (page .exit)) r ⌝ }

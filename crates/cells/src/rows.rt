@@ -6,7 +6,7 @@ use crate::segments::erase_words;
 use crate::segments::fill_words;
 ghost use mathlib.Core.Path.{_≡_};
 ghost use mathlib.Core.List.{map};
-ghost use Prim.Native.Nat.{_+_, _-_, _*_, _≤_, _<_};
+ghost use Prim.Native.Nat.{_+_, _-_, _*_, _≤_};
 ghost use lib.Dec.{eqb};
 ghost use lib.ListN.{length, drop, replicate};
 ghost use lib.Seq.{paste};
@@ -77,9 +77,10 @@ pub fn lower_rows(page: &mut [u16], top: u8, end: u8, left: u8, right: u8, count
         (λ j. overlaid (row (now (page .entry)) j) left right (row (now (page .entry)) (j - count))) r ⌝ }
 {
     let mut bits = 0;
-    let mut k = end;
-    while top < k {
-        k -= 1;
+    let mut rest = end - top;
+    while 0 < rest {
+        rest -= 1;
+        let k = top + rest;
         bits |= move_row(page, k, k - count, left, right);
     }
     bits

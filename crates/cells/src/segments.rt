@@ -2,14 +2,15 @@
 // it with the one that stood there, and says whether some word changed.
 use crate::words::selectively_erase;
 ghost use mathlib.Core.List.{map};
+ghost use mathlib.Core.Logic.{_⊎_};
 ghost use Prim.Native.Nat.{_+_, _≤_};
 ghost use lib.ListN.{length, drop, replicate};
 ghost use Rattle.cells.specs.Cells.{selectivelyErased};
 ghost use Rattle.cells.specs.Writes.{Pasted};
 
-// Copies `len` words from `from` to `to`, which is not a later place.
-fn copy_earlier(page: &mut [u16], to: usize, from: usize, len: usize) -> bool
-    requires { ⌜ (to ≤ from) × (from + len ≤ length (now page)) ⌝ }
+// Copies `len` words from `from` to `to`, the first word first.
+fn copy_upward(page: &mut [u16], to: usize, from: usize, len: usize) -> bool
+    requires { ⌜ (from + len ≤ length (now page)) × (to + len ≤ length (now page)) × ((to ≤ from) ⊎ (from + len ≤ to)) ⌝ }
     ensures { λ r. ⌜ Pasted (now (page .entry)) (now (page .exit)) to (drop from (now (page .entry))) len r ⌝ }
 {
     let mut changed = false;
@@ -23,8 +24,8 @@ fn copy_earlier(page: &mut [u16], to: usize, from: usize, len: usize) -> bool
     changed
 }
 
-// Copies `len` words from `from` to `to`, which is not an earlier place.
-fn copy_later(page: &mut [u16], to: usize, from: usize, len: usize) -> bool
+// Copies `len` words from `from` to `to`, the last word first.
+fn copy_downward(page: &mut [u16], to: usize, from: usize, len: usize) -> bool
     requires { ⌜ (from ≤ to) × (to + len ≤ length (now page)) ⌝ }
     ensures { λ r. ⌜ Pasted (now (page .entry)) (now (page .exit)) to (drop from (now (page .entry))) len r ⌝ }
 {
@@ -39,15 +40,20 @@ fn copy_later(page: &mut [u16], to: usize, from: usize, len: usize) -> bool
     changed
 }
 
-// Copies `len` words from `from` to `to`, which may overlap.
+// Copies `len` words from `from` to `to`. Upward is faster, and wrong only onto a later place that overlaps.
+// A row's length is written out, since a loop of fixed length is faster too.
 pub fn copy_words(page: &mut [u16], to: usize, from: usize, len: usize) -> bool
     requires { ⌜ (from + len ≤ length (now page)) × (to + len ≤ length (now page)) ⌝ }
     ensures { λ r. ⌜ Pasted (now (page .entry)) (now (page .exit)) to (drop from (now (page .entry))) len r ⌝ }
 {
-    if to <= from {
-        copy_earlier(page, to, from, len)
+    if (to <= from) | (from + len <= to) {
+        if len == 80 {
+            copy_upward(page, to, from, 80)
+        } else {
+            copy_upward(page, to, from, len)
+        }
     } else {
-        copy_later(page, to, from, len)
+        copy_downward(page, to, from, len)
     }
 }
 

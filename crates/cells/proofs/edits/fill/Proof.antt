@@ -56,15 +56,17 @@ loop-again c =
     let a = l .before .before .args in
     let R = l .loop .inv .2 in
     let k : ℕ = l .loop .k in
+    let x : ℕ = left .column-in .result in
+    let n : ℕ = right .column-in2 .result - x in
     let old : row (l .loop .page) k ≡ row (a .page .now) k = block-old R k (inr (omega arith)) in
     let w : ℕ = a .word in (
       omega arith,
       omega arith,
-      block-up R (m .fill-row .ensures)
+      block-up {f = λ j. paste (row (l .loop .page) j) x (replicate n w) n} R (m .fill-row .ensures)
           (λ i.
-          let x : ℕ = left .column-in .ensures i in
-          let y : ℕ = right .column-in2 .ensures i in
-          paste (old i) x (replicate (y - x) w) (y - x))
+          let a' : ℕ = left .column-in .ensures i in
+          let n' : ℕ = right .column-in2 .ensures i - a' in
+          paste (old i) a' (replicate n' w) n')
           refl (l .loop .inv .0),
     )
 

@@ -58,14 +58,16 @@ loop-again c =
     let a = l .before .before .args in
     let R = l .loop .inv .2 in
     let k : ℕ = l .loop .k in
+    let x : ℕ = left .column-in .result in
+    let n : ℕ = right .column-in2 .result - x in
     let old : row (l .loop .page) k ≡ row (a .page .now) k = block-old R k (inr (omega arith)) in (
       omega arith,
       omega arith,
-      block-up R (m .erase-row .ensures)
+      block-up {f = λ j. paste (row (l .loop .page) j) x (map selectivelyErased (drop x (row (l .loop .page) j))) n} R (m .erase-row .ensures)
           (λ i.
-          let x : ℕ = left .column-in .ensures i in
-          let y : ℕ = right .column-in2 .ensures i in
-          paste (old i) x (map selectivelyErased (drop x (old i))) (y - x))
+          let a' : ℕ = left .column-in .ensures i in
+          let n' : ℕ = right .column-in2 .ensures i - a' in
+          paste (old i) a' (map selectivelyErased (drop a' (old i))) n')
           refl (l .loop .inv .0),
     )
 

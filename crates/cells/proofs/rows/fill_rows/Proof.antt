@@ -6,6 +6,7 @@ use mathlib.Core.Logic.{inr}
 use Prim.Native.Nat.{ℕ, _-_, _≤_}
 use native.Mathlib.Omega.{arith}
 use lib.ListN.{replicate}
+use lib.Seq.{paste}
 use Rattle.cells.specs.Rows.{row}
 use Rattle.cells.specs.Edits.{overlaid, between}
 use Rattle.cells.specs.Writes.{Redone}
@@ -41,7 +42,7 @@ loop-again c =
     let w : ℕ = a .word in (
       omega arith,
       omega arith,
-      block-up R (m .fill-row .ensures)
+      block-up {f = λ j. paste (row (l .loop .page) j) (a .left) (replicate (a .right - a .left) w) (a .right - a .left)} R (m .fill-row .ensures)
           (filled-row (row (l .loop .page) k) (a .left) (a .right) w (omega arith)
           ∙ ap (λ (x : List ℕ). overlaid x (a .left) (a .right) (replicate 80 w)) (block-old R k (inr (omega arith))))
           refl (l .loop .inv .0),

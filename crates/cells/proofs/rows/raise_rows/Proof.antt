@@ -1,4 +1,4 @@
--- Rows from `top` to `k` are done. The row that row k takes is not done yet, since the loop goes upward and takes from below.
+-- Rows from `top` to `k` are done. The row that row k takes is not done yet, since the loop goes from the first row to the last and takes from below.
 use borrow.Author.Needs.{needs}
 use mathlib.Core.Path.{refl, ap₂}
 use mathlib.Core.List.{List}
@@ -42,7 +42,7 @@ loop-again c =
     let k : ℕ = l .loop .k in (
       omega arith,
       omega arith,
-      block-up R (m .move-row .ensures)
+      block-up {f = λ j. overlaid (row (l .loop .page) j) (a .left) (a .right) (row (l .loop .page) (k + a .count))} R (m .move-row .ensures)
           (ap₂ (λ (x y : List ℕ). overlaid x (a .left) (a .right) y) (block-old R k (inr (omega arith))) (block-old R (k + a .count) (inr (omega arith))))
           refl (l .loop .inv .0),
     )

@@ -1,4 +1,4 @@
--- A word is read before the loop stores over it, since the copy goes downward to a place that is not earlier.
+-- A word is read before the loop stores over it, since it goes downward and to a place that is not earlier.
 use mathlib.Core.Path.{_≡_, refl, sym, _∙_}
 use mathlib.Core.Logic.{inl}
 use native.Mathlib.Omega.{arith}
@@ -7,8 +7,8 @@ use lib.Seq.{getD-drop}
 use borrow.Author.Needs.{needs}
 use Prim.Native.Nat.{ℕ, _+_, _-_, _≤_}
 use Rattle.cells.proofs.Storing.{Stored, stored-none, stored-down, stored-all}
-use Rattle.cells.proofs.segments.copy_later.Statement.{statement}
-use Rattle.cells.proofs.segments.copy_later.Tie as tie
+use Rattle.cells.proofs.segments.copy_downward.Statement.{statement}
+use Rattle.cells.proofs.segments.copy_downward.Tie as tie
 
 abbrev Inv-loop : tie.InvT-loop
 Inv-loop page₀ to from len changed₀ k₀ page changed k = (k ≤ len) × Stored page₀ to (drop from page₀) k len page changed
@@ -68,8 +68,8 @@ same-length c = search needs
 returns : tie.Need-returns Inv-loop μ-loop
 returns c = stored-all (c .before .loop .inv .1) _ (omega arith) refl (omega arith) (simp length-drop (omega arith))
 
-pub copy-later-spec : {M : Type 1} → statement M
-copy-later-spec =
+pub copy-downward-spec : {M : Type 1} → statement M
+copy-downward-spec =
     tie.close
     (tie.spec
     Inv-loop
