@@ -163,7 +163,7 @@ impl Sets {
     pub fn right_set(self) -> CharSet
         ensures { λ r. ⌜ r ≡ rightSet self ⌝ }
     {
-        let gr = self.gr;
-        self.set_in(gr)
+        let register = self.gr;
+        self.set_in(register)
     }
 }
