@@ -1,4 +1,5 @@
 pub mod BoolLaws
+pub mod BoundsLaws
 pub mod CellLaws
 pub mod Choice
 pub mod ParamLaws
