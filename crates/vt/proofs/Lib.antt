@@ -9,6 +9,7 @@ pub mod SoundSequences
 pub mod SoundParser
 pub mod Sound
 pub mod ReplyLength
+pub mod BoundsLaws
 pub mod CellLaws
 pub mod Choice
 pub mod ParamLaws

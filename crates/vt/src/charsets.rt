@@ -38,6 +38,19 @@ pub fn has_96(set: CharSet) -> bool
     }
 }
 
+fn sets_of(g0: CharSet, g1: CharSet, g2: CharSet, g3: CharSet, gl: Register, gr: Register) -> Sets
+    ensures { λ r. ⌜ r ≡ record { g0 = g0; g1 = g1; g2 = g2; g3 = g3; gl = gl; gr = gr } ⌝ }
+{
+    Sets {
+        g0,
+        g1,
+        g2,
+        g3,
+        gl,
+        gr,
+    }
+}
+
 impl Sets {
     pub fn fresh() -> Self
         ensures { λ r. ⌜ r ≡ freshSets ⌝ }
@@ -74,38 +87,10 @@ impl Sets {
         let gl = self.gl;
         let gr = self.gr;
         match register {
-            Register::G0 => Sets {
-                g0: set,
-                g1,
-                g2,
-                g3,
-                gl,
-                gr,
-            },
-            Register::G1 => Sets {
-                g0,
-                g1: set,
-                g2,
-                g3,
-                gl,
-                gr,
-            },
-            Register::G2 => Sets {
-                g0,
-                g1,
-                g2: set,
-                g3,
-                gl,
-                gr,
-            },
-            Register::G3 => Sets {
-                g0,
-                g1,
-                g2,
-                g3: set,
-                gl,
-                gr,
-            },
+            Register::G0 => sets_of(set, g1, g2, g3, gl, gr),
+            Register::G1 => sets_of(g0, set, g2, g3, gl, gr),
+            Register::G2 => sets_of(g0, g1, set, g3, gl, gr),
+            Register::G3 => sets_of(g0, g1, g2, set, gl, gr),
         }
     }
 
@@ -118,14 +103,7 @@ impl Sets {
         let g2 = self.g2;
         let g3 = self.g3;
         let gr = self.gr;
-        Sets {
-            g0,
-            g1,
-            g2,
-            g3,
-            gl: register,
-            gr,
-        }
+        sets_of(g0, g1, g2, g3, register, gr)
     }
 
     // LS1R, LS2R, LS3R.
@@ -137,14 +115,7 @@ impl Sets {
         let g2 = self.g2;
         let g3 = self.g3;
         let gl = self.gl;
-        Sets {
-            g0,
-            g1,
-            g2,
-            g3,
-            gl,
-            gr: register,
-        }
+        sets_of(g0, g1, g2, g3, gl, register)
     }
 
     // The set that 20 to 7F uses.
@@ -163,7 +134,7 @@ impl Sets {
     pub fn right_set(self) -> CharSet
         ensures { λ r. ⌜ r ≡ rightSet self ⌝ }
     {
-        let gr = self.gr;
-        self.set_in(gr)
+        let register = self.gr;
+        self.set_in(register)
     }
 }

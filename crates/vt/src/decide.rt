@@ -17,7 +17,6 @@ use crate::wrap::clears_wrap;
 use crate::wrap::settle;
 ghost use mathlib.Core.Path.{_≡_};
 ghost use mathlib.Core.Bool.{Bool, not, _&&_};
-ghost use Prim.Native.Nat.{_<_};
 ghost use lib.Dec.{leb};
 ghost use Rattle.vt.specs.Bounds.{Bounds};
 ghost use Rattle.vt.specs.Parser as parsing;
@@ -100,7 +99,7 @@ pub fn decide(core: Core, byte: u8) -> Decision
 }
 
 fn decode_and_reply(core: Core, byte: u8) -> Reply
-    requires { ⌜ core .cursor .row < 255 ⌝ }
+    requires { ⌜ Bounds core ⌝ }
     ensures { λ r. ⌜ r ≡ replies.replyTo core (parsing.decode (core .parser) byte .action) ⌝ }
 {
     let parser = core.parser;
@@ -111,7 +110,7 @@ fn decode_and_reply(core: Core, byte: u8) -> Reply
 
 // The reply that a byte draws. A graphic character in ground draws none.
 pub fn reply_for(core: Core, byte: u8) -> Reply
-    requires { ⌜ core .cursor .row < 255 ⌝ }
+    requires { ⌜ Bounds core ⌝ }
     ensures { λ r. ⌜ r ≡ replies.replyTo core (parsing.decode (core .parser) byte .action) ⌝ }
 {
     let parser = core.parser;

@@ -1,6 +1,7 @@
 // Control sequences that erase. Margins don't matter.
 use crate::core::Core;
 use crate::core::Decision;
+use crate::cursor::Cursor;
 use crate::effects::only;
 use crate::effects::quiet;
 use crate::numbers::at_most;
@@ -8,12 +9,33 @@ use crate::numbers::pick_wide;
 use crate::params::Params;
 use cells::Edit;
 ghost use mathlib.Core.Path.{_≡_};
+ghost use mathlib.Core.Bool.{Bool, cond};
+ghost use Prim.Native.Nat.{_+_, _≤_};
+ghost use lib.Dec.{eqb};
 ghost use Rattle.vt.specs.Bounds.{Bounds};
+ghost use Rattle.vt.specs.Cursor.{offset};
 ghost use Rattle.vt.specs.Params.{param};
 ghost use Rattle.vt.specs.Sequences as sequences;
 
-// The cells from `base` to `end` that a selector names become blank: 0 from the cursor's on, 1 up to
-// the cursor's, 2 all.
+// A run of cells in reading order: it ends before `to`.
+struct Run {
+    from: u16,
+    to: u16,
+}
+
+// The cells from `base` to `end` that a selector names: 0 from the cursor's on, 1 up to it, 2 all.
+fn selected(cursor: Cursor, selector: u16, base: u16, end: u16) -> Run
+    requires { ⌜ (1 ≤ cursor .row) × (1 ≤ cursor .column) ⌝ }
+    ensures { λ r. ⌜ (r .from ≡ cond (eqb selector 0) (offset cursor) base) × (r .to ≡ cond (eqb selector 1) (offset cursor + 1) end) ⌝ }
+{
+    let at = cursor.offset();
+    Run {
+        from: pick_wide(selector == 0, at, base),
+        to: pick_wide(selector == 1, at + 1, end),
+    }
+}
+
+// The selected cells become blank.
 fn erase(core: Core, selector: u16, base: u16, end: u16) -> Decision
     requires { ⌜ Bounds core ⌝ }
     ensures { λ r. ⌜ r ≡ sequences.erased core selector base end sequences.toBlank ⌝ }
@@ -22,14 +44,12 @@ fn erase(core: Core, selector: u16, base: u16, end: u16) -> Decision
         return quiet(core);
     }
     let cursor = core.cursor;
-    let at = cursor.offset();
-    let from = pick_wide(selector == 0, at, base);
-    let to = pick_wide(selector == 1, at + 1, end);
+    let run = selected(cursor, selector, base, end);
     only(
         core,
         Edit::Fill {
-            from,
-            to,
+            from: run.from,
+            to: run.to,
             word: 0x20,
         },
     )
@@ -44,10 +64,14 @@ fn erase_selectively(core: Core, selector: u16, base: u16, end: u16) -> Decision
         return quiet(core);
     }
     let cursor = core.cursor;
-    let at = cursor.offset();
-    let from = pick_wide(selector == 0, at, base);
-    let to = pick_wide(selector == 1, at + 1, end);
-    only(core, Edit::SelectiveErase { from, to })
+    let run = selected(cursor, selector, base, end);
+    only(
+        core,
+        Edit::SelectiveErase {
+            from: run.from,
+            to: run.to,
+        },
+    )
 }
 
 // How many cells stand before the cursor's row.

@@ -188,11 +188,12 @@ pub fn print(core: Core, byte: u8) -> Decision
     let sets = core.sets;
     let shift = core.shift;
     let set = used_set(sets, shift, byte);
+    let next = without_shift(core);
     if skipped(set, byte) {
         return quiet(core);
     }
     let word = cell_word(core, byte % 128, shown_set(set, byte));
-    put(without_shift(core), word)
+    put(next, word)
 }
 
 // SUB: code 1A of ASCII. It uses no set, and a pending shift stays.

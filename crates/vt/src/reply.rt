@@ -3,12 +3,13 @@ use crate::core::Core;
 use crate::families::is_marked;
 use crate::families::is_plain;
 use crate::numbers::back;
+use crate::numbers::pick;
 use crate::params::Params;
 use crate::parser::Action;
 ghost use mathlib.Core.Path.{_≡_};
 ghost use mathlib.Core.Bool.{Bool, cond};
-ghost use Prim.Native.Nat.{_<_};
 ghost use lib.Dec.{eqb};
+ghost use Rattle.vt.specs.Bounds.{Bounds};
 ghost use Rattle.vt.specs.declared.parser.Action.the-variants.{ControlSequence};
 ghost use Rattle.vt.specs.declared.reply.Reply.the-variants.{Silent, PrimaryAttributes};
 ghost use Rattle.vt.specs.Replies.{reportedRow, plainReply, markedReply, isSecondary, replyTo};
@@ -31,19 +32,16 @@ pub enum Reply {
 
 // The cursor's row, counted from T with origin on.
 fn reported_row(core: Core) -> u8
-    requires { ⌜ core .cursor .row < 255 ⌝ }
+    requires { ⌜ Bounds core ⌝ }
     ensures { λ r. ⌜ r ≡ reportedRow core ⌝ }
 {
-    let row = core.cursor.row;
-    if core.modes.origin {
-        return back(row, core.margins.top as u16, 0) + 1;
-    }
-    row
+    let first = pick(core.modes.origin, core.margins.top, 1);
+    back(core.cursor.row, first as u16, 0) + 1
 }
 
 // DA, DSR, CPR.
 fn plain_reply(core: Core, params: Params, last: u8) -> Reply
-    requires { ⌜ core .cursor .row < 255 ⌝ }
+    requires { ⌜ Bounds core ⌝ }
     ensures { λ r. ⌜ r ≡ plainReply core params last ⌝ }
 {
     let selector = params.get(0);
@@ -64,7 +62,7 @@ fn plain_reply(core: Core, params: Params, last: u8) -> Reply
 
 // DECXCPR and the printer's DSR.
 fn marked_reply(core: Core, params: Params, last: u8) -> Reply
-    requires { ⌜ core .cursor .row < 255 ⌝ }
+    requires { ⌜ Bounds core ⌝ }
     ensures { λ r. ⌜ r ≡ markedReply core params last ⌝ }
 {
     let selector = params.get(0);
@@ -89,7 +87,7 @@ fn is_secondary(params: Params, mark: u8, first: u8, second: u8, last: u8) -> bo
 }
 
 fn sequence_reply(core: Core, mark: u8, first: u8, second: u8, last: u8) -> Reply
-    requires { ⌜ core .cursor .row < 255 ⌝ }
+    requires { ⌜ Bounds core ⌝ }
     ensures { λ r. ⌜ r ≡ replyTo core (ControlSequence mark first second last) ⌝ }
 {
     let params = core.parser.params;
@@ -116,7 +114,7 @@ fn control_reply(byte: u8) -> Reply
 }
 
 pub fn reply_to(core: Core, action: Action) -> Reply
-    requires { ⌜ core .cursor .row < 255 ⌝ }
+    requires { ⌜ Bounds core ⌝ }
     ensures { λ r. ⌜ r ≡ replyTo core action ⌝ }
 {
     match action {

@@ -1,8 +1,10 @@
 -- Each way is the definition's, by the selector.
 use borrow.Author.Tests.{le-leb, lt-leb}
-use mathlib.Core.Path.{_∙_}
-use native.Mathlib.Omega.{arith}
+use mathlib.Core.Path.{ap₂, _∙_}
 use borrow.Author.Needs.{needs}
+use Prim.Native.Nat.{ℕ}
+use Rattle.vt.specs.Effects.{only}
+use Rattle.vt.specs.Sequences.{toBlank}
 use Rattle.vt.proofs.Choice.{take-yes, take-no}
 use Rattle.vt.proofs.erasing.erase.Statement.{statement}
 use Rattle.vt.proofs.erasing.erase.Tie as tie
@@ -13,23 +15,16 @@ quiet-requires c κs = search needs
 returns : tie.Need-returns
 returns c = take-no _ _ (lt-leb _ _ (c .before .if1 .taken)) (c .quiet .ensures)
 
-offset-requires : tie.Need-offset-requires
-offset-requires c κs = search needs
-
-pick-wide-requires : tie.Need-pick-wide-requires
-pick-wide-requires c κs = search needs
-
-add-pick-wide : tie.Need-add-pick-wide
-add-pick-wide c = omega (arith, c .before .offset .ensures)
-
-pick-wide-requires-2 : tie.Need-pick-wide-requires-2
-pick-wide-requires-2 c κs = search needs
+selected-requires : tie.Need-selected-requires
+selected-requires c κs = search needs
 
 only-requires : tie.Need-only-requires
 only-requires c κs = search needs
 
 returns-2 : tie.Need-returns-2
-returns-2 c = take-yes _ _ (le-leb _ _ (c .before .before .before .before .before .if1 .left)) (c .only .ensures ∙ rw (c .before .pick-wide2 .ensures, c .before .before .pick-wide .ensures, c .before .before .before .offset .ensures))
+returns-2 c =
+    take-yes _ _ (le-leb _ _ (c .before .before .before .if1 .left))
+    (c .only .ensures ∙ ap₂ (λ (a z : ℕ). only (c .before .before .before .before .args .core) (toBlank a z)) (c .before .selected .ensures .0) (c .before .selected .ensures .1))
 
 pub erase-spec : {M : Type 1} → statement M
-erase-spec = tie.close (tie.spec quiet-requires returns offset-requires pick-wide-requires add-pick-wide pick-wide-requires-2 only-requires returns-2)
+erase-spec = tie.close (tie.spec quiet-requires returns selected-requires only-requires returns-2)

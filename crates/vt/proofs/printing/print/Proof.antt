@@ -1,5 +1,5 @@
 -- Each way is the definition's, by whether the byte is skipped in its set.
-use mathlib.Core.Path.{_∙_}
+use mathlib.Core.Path.{_∙_, sym}
 use native.Mathlib.Omega.{arith}
 use borrow.Author.Needs.{needs}
 use Rattle.vt.specs.Printing.{printed}
@@ -9,6 +9,9 @@ use Rattle.vt.proofs.printing.print.Tie as tie
 used-set-requires : tie.Need-used-set-requires
 used-set-requires c κs = search needs
 
+without-shift-requires : tie.Need-without-shift-requires
+without-shift-requires c κs = search needs
+
 skipped-requires : tie.Need-skipped-requires
 skipped-requires c κs = search needs
 
@@ -17,7 +20,9 @@ quiet-requires c κs = search needs
 
 returns : tie.Need-returns
 unfolding printed
-returns c = rw (← c .before .before .before .used-set .ensures, ← c .before .before .skipped .ensures, c .before .if1 .taken) (c .quiet .ensures)
+returns c =
+    let t = c .before in
+    rw (← t .before .before .before .used-set .ensures, ← t .before .skipped .ensures, t .if1 .taken) (c .quiet .ensures)
 
 shown-set-requires : tie.Need-shown-set-requires
 shown-set-requires c κs = search needs
@@ -25,28 +30,29 @@ shown-set-requires c κs = search needs
 cell-word-requires : tie.Need-cell-word-requires
 cell-word-requires c κs = search needs
 
-without-shift-requires : tie.Need-without-shift-requires
-without-shift-requires c κs = search needs
-
 put-requires : tie.Need-put-requires
-put-requires c κs = rw (c .without-shift .ensures) (omega arith)
+put-requires c κs = rw (c .before .before .before .before .without-shift .ensures) (omega arith)
 
 returns-2 : tie.Need-returns-2
 unfolding printed
 returns-2 c =
+    let w = c .before in
+    let t = w .before .before in
+    let s = t .before in
+    let n = s .before in
     c .put .ensures
-    ∙ rw (c .before .without-shift .ensures, c .before .before .cell-word .ensures, c .before .before .before .shown-set .ensures, ← c .before .before .before .before .before .before .used-set .ensures, ← c .before .before .before .before .before .skipped .ensures, c .before .before .before .before .if1 .left)
+    ∙ rw (n .without-shift .ensures, w .cell-word .ensures, w .before .shown-set .ensures, ← n .before .used-set .ensures, ← s .skipped .ensures, t .if1 .left)
 
 pub print-spec : {M : Type 1} → statement M
 print-spec =
     tie.close
     (tie.spec
     used-set-requires
+    without-shift-requires
     skipped-requires
     quiet-requires
     returns
     shown-set-requires
     cell-word-requires
-    without-shift-requires
     put-requires
     returns-2)

@@ -1,8 +1,12 @@
--- Each way is the definition's, by the origin mode.
+-- The row is counted from the one that `pick` gives, as the definition has it.
 use native.Mathlib.Omega.{arith}
 use borrow.Author.Needs.{needs}
+use Rattle.vt.proofs.CellLaws.{counted}
 use Rattle.vt.proofs.reply.reported_row.Statement.{statement}
 use Rattle.vt.proofs.reply.reported_row.Tie as tie
+
+pick-requires : tie.Need-pick-requires
+pick-requires c κs = search needs
 
 cast-back : tie.Need-cast-back
 cast-back c = search needs
@@ -11,13 +15,12 @@ back-requires : tie.Need-back-requires
 back-requires c κs = search needs
 
 add-result : tie.Need-add-result
-add-result c = search needs
+add-result c = omega (arith, c .back .ensures)
 
 returns : tie.Need-returns
-returns c = rw (c .before .before .if1 .taken, c .back .ensures) (omega arith)
-
-returns-2 : tie.Need-returns-2
-returns-2 c = rw (c .if1 .left)
+returns c =
+    let k = c .before .before in
+    rw (c .back .ensures, c .before .pick .ensures) (counted (k .args .core .modes .origin) (k .args .core .cursor .row) (k .args .core .margins .top) (k .pre .row-low))
 
 pub reported-row-spec : {M : Type 1} → statement M
-reported-row-spec = tie.close (tie.spec cast-back back-requires add-result returns returns-2)
+reported-row-spec = tie.close (tie.spec pick-requires cast-back back-requires add-result returns)
