@@ -1,0 +1,22 @@
+-- What is written is a front part of the buffer, by `least`.
+use mathlib.Core.Path.{sym}
+use lib.Seq.{length-take-le}
+use borrow.Author.Needs.{needs}
+use Rattle.compare.proofs.output.flush.Statement.{statement}
+use Rattle.compare.proofs.output.flush.Tie as tie
+
+least-requires : tie.Need-least-requires
+least-requires c κs = search needs
+
+slice-aggregate-write-all : tie.Need-slice-aggregate-write-all
+slice-aggregate-write-all c = sym (length-take-le _ _ (c .before .least .ensures .1))
+
+write-all-requires : tie.Need-write-all-requires
+write-all-requires c κs = search needs
+
+returns : tie.Need-returns
+returns c = search needs
+
+pub flush-spec : {M : Type 1} → statement M
+flush-spec =
+    tie.close (tie.spec least-requires slice-aggregate-write-all write-all-requires returns)
