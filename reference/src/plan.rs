@@ -10,32 +10,20 @@ pub const SIZES: [u16; 3] = [24, 36, 48];
 const ROOM: u16 = 12;
 
 /// The bytes of every file in the directory of captures.
-pub const CAPTURES: [(&str, &[u8]); 7] = [
-    (
-        "damaged",
-        include_bytes!("../../captures/damaged.bytes").as_slice(),
-    ),
-    (
-        "eightbit",
-        include_bytes!("../../captures/eightbit.bytes").as_slice(),
-    ),
-    (
-        "firmware",
-        include_bytes!("../../captures/firmware.bytes").as_slice(),
-    ),
-    (
-        "form",
-        include_bytes!("../../captures/form.bytes").as_slice(),
-    ),
-    ("log", include_bytes!("../../captures/log.bytes").as_slice()),
-    (
-        "menu",
-        include_bytes!("../../captures/menu.bytes").as_slice(),
-    ),
-    (
-        "status",
-        include_bytes!("../../captures/status.bytes").as_slice(),
-    ),
+pub const CAPTURES: [(&str, &[u8]); 13] = [
+    ("boot", include_bytes!("../../captures/boot.bytes")),
+    ("damaged", include_bytes!("../../captures/damaged.bytes")),
+    ("edge", include_bytes!("../../captures/edge.bytes")),
+    ("editing", include_bytes!("../../captures/editing.bytes")),
+    ("eightbit", include_bytes!("../../captures/eightbit.bytes")),
+    ("firmware", include_bytes!("../../captures/firmware.bytes")),
+    ("form", include_bytes!("../../captures/form.bytes")),
+    ("log", include_bytes!("../../captures/log.bytes")),
+    ("margins", include_bytes!("../../captures/margins.bytes")),
+    ("menu", include_bytes!("../../captures/menu.bytes")),
+    ("sets", include_bytes!("../../captures/sets.bytes")),
+    ("status", include_bytes!("../../captures/status.bytes")),
+    ("strings", include_bytes!("../../captures/strings.bytes")),
 ];
 
 /// All of it: the fixed parts, then streams until about `bytes` bytes are fed.
@@ -1124,6 +1112,11 @@ impl Session {
                     self.script.feed(piece, ROOM);
                     self.script.read(1, 1);
                     self.script.ask();
+                    if random.percent(25) {
+                        // What lies beyond the page, too.
+                        self.script.lend(BUFFER_WORDS as u16);
+                        self.script.page();
+                    }
                     self.script.lend(self.rows * 80);
                 }
                 _ => self.script.feed(b"", room as u16),

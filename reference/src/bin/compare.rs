@@ -116,6 +116,9 @@ fn check(script: &Script, file: &Path) -> ExitCode {
             println!("  {}", command_in_words(&command));
             println!("expected {}", piece_in_words(&piece, piece.len()));
             println!("found    {}", piece_in_words(&found[place..], piece.len()));
+            if found.len() < place + piece.len() {
+                println!("the output ends there, after {} bytes", found.len());
+            }
             if let Some(difference) = first_difference(&command, &piece, &found[place..]) {
                 println!("{difference}");
             }
