@@ -373,6 +373,12 @@ fn listed(rows: u16) -> Vec<Vec<u8>> {
         b"\x1B7\x1B[?7l\x1B8q",
         b"\x1B8q",
         b"\x1B[!p\x1B8q",
+        b"\x1B[2J\x1Bc",
+        // Is origin on?
+        b"\x1B#8\x1B[5;9r\x1B[2H",
+        b"\x1B[!p\x1B[5;9r\x1B[2H",
+        b"\x1Bc\x1B[5;9r\x1B[2H",
+        b"\x1B8\x1B[5;9r\x1B[2H",
         b"\x1B#8\n",
         b"\x8D\x8D",
         b"\x8Eq\x8Fq",
@@ -453,6 +459,29 @@ fn odd(rows: u16) -> Vec<Vec<u8>> {
             csi(&format!("?{mode}"), &format!("{last}q"));
         }
     }
+    for mark in ["<", "=", ">", "??"] {
+        for last in ["h", "l"] {
+            csi(&format!("{mark}4;20"), last);
+            csi(&format!("{mark}6"), last);
+            csi(&format!("{mark}7"), last);
+        }
+        for last in ["A", "B", "C", "D", "H", "f", "X", "L", "M", "@", "P"] {
+            csi(&format!("{mark}3"), last);
+            csi("?3", last);
+        }
+        for last in ["J", "K"] {
+            csi(&format!("{mark}1"), last);
+        }
+        csi(&format!("{mark}5;9"), "r");
+        csi("?5;9", "r");
+        csi(&format!("{mark}7"), "mq");
+        csi(&format!("{mark}1"), "\"qq");
+        csi(mark, "!p");
+        csi(&format!("{mark}3"), "g\r\t");
+        csi(&format!("{mark}6"), "n");
+        csi(&format!("{mark}5"), "n");
+        csi(mark, "c");
+    }
     for selector in [
         "", "0", "1", "2", "21", "28", "0;7", "1;22;4", "?1", ">1", "1;0", ";1",
     ] {
@@ -471,6 +500,23 @@ fn odd(rows: u16) -> Vec<Vec<u8>> {
         csi(selector, "p");
         csi(selector, "$p");
         csi(selector, "!!p");
+    }
+    // Numbers that are small again if they are cut to 8, 16, 32 or 64 bits.
+    for (number, last) in [
+        ("262", "n"),
+        ("65542", "n"),
+        ("4294967302", "n"),
+        ("18446744073709551622", "n"),
+        ("65540", "hq"),
+        ("?65543", "h"),
+        ("257", "mq"),
+        ("65538", "J"),
+        ("65539", "g\r\t"),
+        ("65536", "C"),
+        ("65541;65545", "r"),
+        ("4294967297;4294967299", "H"),
+    ] {
+        csi(number, last);
     }
     // What is not listed, or not well formed.
     for last in 0x40..=0x7Eu8 {
@@ -573,8 +619,8 @@ pub fn functions_at_the_edges() -> Script {
                 s.feed(b"\x1B[6n", ROOM);
                 s.feed(b"\x1B[?6n", ROOM);
                 match number % 12 {
-                    0 | 5 => s.page(),
-                    3 | 9 => s.text(),
+                    0 => s.page(),
+                    6 => s.text(),
                     _ => {}
                 }
                 // Wrap due, the sets and the shift show in what is printed.
@@ -582,8 +628,14 @@ pub fn functions_at_the_edges() -> Script {
                 s.ask();
                 s.feed(b"\x1B[6n", ROOM);
                 s.read(row, column);
+                s.read(row, column.min(79) + 1);
                 s.read(row, 80);
                 s.read(row.min(rows - 1) + 1, 1);
+                match number % 12 {
+                    3 | 9 => s.page(),
+                    5 | 11 => s.text(),
+                    _ => {}
+                }
             }
         }
     }
