@@ -58,7 +58,7 @@ pub fn feed(
         read += 1;
         scene = after;
     }
-    page.copy_from_slice(&scene.page.words());
+    scene.page.write_words(page);
     (answer, read, replied, scene.state)
 }
 

@@ -14,6 +14,8 @@
 //! * `calls`: the four calls with their answers.
 //! * `text`: the page as text.
 //! * `grammar`: seeded hostile byte streams for comparing.
+//! * `script`: scripts of calls, and carrying them out.
+//! * `plan`: the scripts that are compared.
 
 pub mod calls;
 pub mod cell;
@@ -21,7 +23,9 @@ pub mod functions;
 pub mod grammar;
 pub mod page;
 pub mod parser;
+pub mod plan;
 pub mod reply;
+pub mod script;
 pub mod state;
 pub mod text;
 

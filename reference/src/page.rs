@@ -16,7 +16,7 @@ pub struct Page {
 impl Page {
     /// The words must be whole rows.
     pub fn of_words(words: &[u16]) -> Page {
-        let mut rows = Vec::new();
+        let mut rows = Vec::with_capacity(words.len() / COLUMNS);
         for line in words.chunks_exact(COLUMNS) {
             let mut row = BLANK_ROW;
             for (cell, &word) in row.iter_mut().zip(line) {
@@ -27,8 +27,13 @@ impl Page {
         Page { rows }
     }
 
-    pub fn words(&self) -> Vec<u16> {
-        self.rows.iter().flatten().map(|cell| cell.word()).collect()
+    /// Writes every cell's word. There must be as many words as cells.
+    pub fn write_words(&self, words: &mut [u16]) {
+        for (line, row) in words.chunks_exact_mut(COLUMNS).zip(&self.rows) {
+            for (word, cell) in line.iter_mut().zip(row) {
+                *word = cell.word();
+            }
+        }
     }
 
     /// Has the row here another cell than in the other page?

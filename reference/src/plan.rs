@@ -1,0 +1,1207 @@
+//! What is compared, as scripts. The fixed parts are always the same; the
+//! streams depend on a seed alone.
+
+use crate::grammar::{stream, Random};
+use crate::script::*;
+
+pub const SIZES: [u16; 3] = [24, 36, 48];
+
+/// Room enough for any one reply.
+const ROOM: u16 = 12;
+
+/// The bytes of every file in the directory of captures.
+pub const CAPTURES: [(&str, &[u8]); 13] = [
+    ("boot", include_bytes!("../../captures/boot.bytes")),
+    ("damaged", include_bytes!("../../captures/damaged.bytes")),
+    ("edge", include_bytes!("../../captures/edge.bytes")),
+    ("editing", include_bytes!("../../captures/editing.bytes")),
+    ("eightbit", include_bytes!("../../captures/eightbit.bytes")),
+    ("firmware", include_bytes!("../../captures/firmware.bytes")),
+    ("form", include_bytes!("../../captures/form.bytes")),
+    ("log", include_bytes!("../../captures/log.bytes")),
+    ("margins", include_bytes!("../../captures/margins.bytes")),
+    ("menu", include_bytes!("../../captures/menu.bytes")),
+    ("sets", include_bytes!("../../captures/sets.bytes")),
+    ("status", include_bytes!("../../captures/status.bytes")),
+    ("strings", include_bytes!("../../captures/strings.bytes")),
+];
+
+/// All of it: the fixed parts, then streams until about `bytes` bytes are fed.
+pub fn whole(seed: u64, bytes: usize) -> Script {
+    let mut script = Script::new();
+    for part in fixed_parts() {
+        script.append(&part);
+    }
+    let rest = bytes.saturating_sub(script.input);
+    script.append(&streams(seed, rest));
+    script
+}
+
+pub fn fixed_parts() -> Vec<Script> {
+    vec![
+        before_any_start(),
+        examples(),
+        captures(),
+        functions_at_the_edges(),
+        bytes_in_each_phase(),
+        rooms(),
+        broken_states(),
+        wrong_lengths(),
+        all_starts(),
+    ]
+}
+
+// ---- Before any start, the examples, the captures ---------------------------
+
+/// The buffer is all 0 and nothing is lent.
+pub fn before_any_start() -> Script {
+    let mut s = Script::new();
+    s.page();
+    s.text();
+    s.ask();
+    s.read(1, 1);
+    s.read(0, 0);
+    s.feed(b"", 0);
+    s.feed(b"x\x1B[6n", ROOM);
+    s.word(3, 0xFFFF);
+    s.word(1919, 0x8041);
+    s.word(1920, 0x4042);
+    s.word(4095, 0xFFFF);
+    s.word(4096, 0x1111);
+    s.word(65535, 0x2222);
+    s.lend(1920);
+    s.page();
+    s.read(1, 4);
+    s.read(24, 80);
+    s.read(1, 1);
+    s.feed(b"\x1B[6nx", ROOM);
+    s.ask();
+    s.page();
+    s.lend(65535);
+    s.page();
+    s.read(1, 1);
+    s
+}
+
+/// Everything that can be asked of a state without changing page or cursor.
+fn look(s: &mut Script) {
+    s.ask();
+    s.feed(b"\x1B[6n", ROOM);
+    s.feed(b"\x1B[?6n", ROOM);
+    s.text();
+}
+
+/// Document 01's examples, in each size of page.
+pub fn examples() -> Script {
+    let fed: [&[u8]; 9] = [
+        b"\x1B[5;77H1.10",
+        b"\x1B[?7h\x1B[5;77H1.10",
+        b"\x1B[?7h\x1B[5;77H1.10x",
+        b"\x1B[99;99H",
+        b"\x1B[3;3r\x1B[?6h",
+        b"\x1B[3;4r\x1B[?6h\x1B[9;9H",
+        b"\x1B[6;10r\x1B[?6h\x1B[2;5H",
+        b"\x1B[2\x18J",
+        b"\x1B[1:2AB",
+    ];
+    let mut s = Script::new();
+    for rows in SIZES {
+        for bytes in fed {
+            s.start_right(rows);
+            s.feed(bytes, ROOM);
+            look(&mut s);
+            s.page();
+        }
+        // 6
+        for room in 0..8 {
+            s.start_right(rows);
+            s.feed(b"\x1B[6n", room);
+            look(&mut s);
+        }
+        // 8
+        s.start_right(rows);
+        s.feed(b"", 0);
+        s.ask();
+        s.page();
+        // 9
+        s.feed(b"A", 0);
+        s.ask();
+        s.feed(b"\x1B[HA", 0);
+        s.ask();
+        s.feed(b"\x1B[24H\n", 0);
+        look(&mut s);
+        s.feed(format!("\x1B[{rows}H\n").as_bytes(), 0);
+        look(&mut s);
+        // 10
+        s.start_right(rows);
+        s.feed(
+            format!("\x1B[?7h\x1B[{rows}HA\x1B[{rows};80H ").as_bytes(),
+            0,
+        );
+        s.ask();
+        s.feed(b"A", 0);
+        look(&mut s);
+        // 11
+        s.start_right(rows);
+        s.feed(b"\x1B[c\x1B[5n\x1B[6n", 18);
+        s.start_right(rows);
+        s.feed(b"\x1B[c\x1B[5n\x1B[6n", 40);
+        s.start_right(rows);
+        s.feed(b"\x1B[c\x1B[5n\x1B[6n", 17);
+        s.feed(b"n", 17);
+        look(&mut s);
+    }
+    s
+}
+
+/// Each capture at once, byte by byte and in pieces of 7.
+pub fn captures() -> Script {
+    let mut s = Script::new();
+    for rows in SIZES {
+        for (_, bytes) in CAPTURES {
+            for length in [bytes.len(), 1, 7] {
+                s.start_right(rows);
+                for piece in bytes.chunks(length) {
+                    s.feed(piece, 100);
+                    if length > 1 {
+                        s.ask();
+                    }
+                }
+                look(&mut s);
+                s.page();
+            }
+        }
+    }
+    s
+}
+
+// ---- Every function at the edges --------------------------------------------
+
+/// A situation: how it is brought about, and about where the cursor then is.
+struct Preparation {
+    bytes: Vec<u8>,
+    row: u16,
+    column: u16,
+}
+
+fn preparations(rows: u16) -> Vec<Preparation> {
+    let mut list = Vec::new();
+    let mut add = |row: u16, column: u16, bytes: String| {
+        list.push(Preparation {
+            bytes: bytes.chars().map(|sign| sign as u32 as u8).collect(),
+            row,
+            column,
+        });
+    };
+    let last = rows;
+    add(1, 1, String::new());
+    // Somewhere inside, at the corners, and at the edges without autowrap.
+    add(7, 40, "\x1B[7;40H".into());
+    add(1, 80, "\x1B[80Cz".into());
+    add(last, 1, format!("\x1B[{last}H"));
+    add(last, 80, format!("\x1B[{last};80H"));
+    // Wrap due: at the top, inside, at the bottom.
+    add(1, 80, "\x1B[?7h\x1B[80Cz".into());
+    add(7, 80, "\x1B[?7h\x1B[7;79Hyz".into());
+    add(last, 80, format!("\x1B[?7h\x1B[{last};80Hz"));
+    // The same with margins: above, at T, inside, at B, below, at the edge.
+    for row in [1, 4, 5, 8, 10, 11, last] {
+        add(row, 40, format!("\x1B[5;10r\x1B[{row};40H"));
+        add(row, 80, format!("\x1B[5;10r\x1B[?7h\x1B[{row};80Hz"));
+    }
+    // Margins that touch an edge of the page, and the smallest.
+    add(3, 3, "\x1B[1;3r\x1B[3;3H".into());
+    let above = last - 1;
+    add(last, 3, format!("\x1B[{above}r\x1B[{last};3H"));
+    add(above, 3, format!("\x1B[{above}r\x1B[{above};3H"));
+    add(6, 79, "\x1B[6;7r\x1B[6;79H".into());
+    // Origin on: at T, inside, at B; with wrap due; with full margins.
+    for row in [1, 3, 6] {
+        add(row + 4, 40, format!("\x1B[5;10r\x1B[?6h\x1B[{row};40H"));
+    }
+    add(10, 80, "\x1B[5;10r\x1B[?6;7h\x1B[6;80Hz".into());
+    add(1, 1, "\x1B[?6h".into());
+    // Insert mode, newline mode.
+    add(7, 40, "\x1B[4h\x1B[7;40H".into());
+    add(7, 80, "\x1B[4h\x1B[?7h\x1B[7;80Hz".into());
+    add(7, 40, "\x1B[20h\x1B[7;40H".into());
+    add(10, 80, "\x1B[20h\x1B[5;10r\x1B[?7h\x1B[10;80Hz".into());
+    // A shift pending; with wrap due; of a 96-sign set.
+    add(7, 40, "\x1B[7;40H\u{8E}".into());
+    add(7, 80, "\x1B*0\x1B[?7h\x1B[7;80Hz\x1BN".into());
+    add(7, 40, "\x1B/A\x1B[7;40H\x1BO".into());
+    // Protected cells, and protection on, with rendition.
+    add(
+        7,
+        40,
+        "\x1B[7;30H\x1B[1\"qabcdef\x1B[0\"qghijkl\x1B[1\"qmnopqr\x1B[1;7m\x1B[7;40H".into(),
+    );
+    add(
+        7,
+        38,
+        "\x1B[6;36H\x1B[1;4;5;7m\x1B[1\"qab\x1B[2\"qcd\r\n\x1B[35Cef".into(),
+    );
+    // A saved cursor: with wrap due, autowrap on or off again; with origin, the
+    // margins then elsewhere.
+    add(7, 40, "\x1B[?7h\x1B[9;80Hz\x1B7\x1B[7;40H".into());
+    add(7, 40, "\x1B[?7h\x1B[9;80Hz\x1B7\x1B[?7l\x1B[7;40H".into());
+    add(
+        7,
+        40,
+        "\x1B[5;10r\x1B[?6h\x1B[2;5H\x1B(0\x1B[7m\x1B7\x1B[?6l\x1B(B\x1B[m\x1B[8;12r\x1B[7;40H"
+            .into(),
+    );
+    add(
+        7,
+        40,
+        "\x1B[12r\x1B[?6;7h\x1B[3;80Hz\x1B7\x1B[?6l\x1B[5;9r\x1B[7;40H".into(),
+    );
+    // Latin-1 in GL and GR; Special Graphics; Supplemental.
+    add(7, 40, "\x1B-A\x0E\x1B~\x1B[7;40H".into());
+    add(7, 40, "\x1B.A\x1Bn\x1B[7;40H".into());
+    add(7, 40, "\x1B(0\x1B)0\x1B~\x1B[7;40H".into());
+    add(7, 40, "\x1B(%5\x1B+B\x1B|\x1B[7;40H".into());
+    // 8-bit replies; with origin; at the far corner.
+    add(7, 40, "\x1B G\x1B[7;40H".into());
+    add(last, 80, format!("\x1B G\x1B[?7h\x1B[{last};80Hz"));
+    add(10, 80, "\x1B G\x1B[5;10r\x1B[?6h\x1B[9;99H".into());
+    // Tabs cleared, tabs set; cursor hidden.
+    add(7, 40, "\x1B[3g\x1B[7;45H\x1BH\x1B[7;40H".into());
+    add(7, 80, "\x1B[7;80H\x1BH".into());
+    add(7, 73, "\x1B[?25l\x1B[7;73H".into());
+    list
+}
+
+/// Every listed function with parameters at the edges, every control, and signs
+/// at the edges of the sets.
+fn listed(rows: u16) -> Vec<Vec<u8>> {
+    let mut list: Vec<Vec<u8>> = Vec::new();
+    // Signs.
+    for byte in [0x20, 0x21, 0x41, 0x5E, 0x5F, 0x71, 0x7E, 0x7F] {
+        list.push(vec![byte]);
+        list.push(vec![byte + 0x80]);
+        list.push(vec![byte, b'x']);
+    }
+    list.push(b"xyz".to_vec());
+    // Controls.
+    for byte in 0x00..=0x1F {
+        list.push(vec![byte]);
+    }
+    for byte in 0x80..=0x9F {
+        list.push(vec![byte]);
+    }
+    // Escape sequences.
+    for last in [b"7", b"8", b"c", b"n", b"o", b"~", b"}", b"|"] {
+        list.push([b"\x1B", &last[..]].concat());
+    }
+    for rest in ["#8", " F", " G"] {
+        list.push(format!("\x1B{rest}").into_bytes());
+    }
+    for slot in "()*+-./".chars() {
+        for set in ["B", "0", "A", "%5"] {
+            list.push(format!("\x1B{slot}{set}").into_bytes());
+        }
+    }
+    // Control sequences.
+    let mut csi = |parameters: &str, last: &str| {
+        list.push(format!("\x1B[{parameters}{last}").into_bytes());
+    };
+    let edge = rows.to_string();
+    let above = (rows - 1).to_string();
+    let beyond = (rows + 1).to_string();
+    let vertical = ["", "0", "1", "2", "3", "5", "6", &above, &edge, "9999"];
+    let horizontal = ["", "0", "1", "2", "40", "41", "79", "80", "81", "9999"];
+    for last in ["A", "B", "L", "M"] {
+        for count in vertical {
+            csi(count, last);
+        }
+    }
+    for last in ["C", "D", "X", "@", "P"] {
+        for count in horizontal {
+            csi(count, last);
+        }
+    }
+    for row in ["", "0", "1", "5", "6", "7", &edge, &beyond, "9999"] {
+        csi(row, "H");
+        csi(&format!("{row};80"), "H");
+    }
+    for place in [";0", ";1", ";79", ";81", ";9999", "3;3;3"] {
+        csi(place, "f");
+    }
+    for margins in ["", "0;0", "1;2", "2;1", "3;3", "5;11", "6;9", "9;0", "0;9"] {
+        csi(margins, "r");
+    }
+    csi(&format!("{above};{edge}"), "r");
+    csi(&format!("{edge};{edge}"), "r");
+    csi(&format!("{above};{beyond}"), "r");
+    csi(&format!("{edge};9999"), "r");
+    for last in ["J", "K"] {
+        for selector in ["", "0", "1", "2", "3"] {
+            csi(selector, last);
+            csi(&format!("?{selector}"), last);
+        }
+    }
+    for selector in ["", "3", "1"] {
+        csi(selector, "g\r\t");
+        csi(selector, "g\t\t");
+        csi(selector, "g");
+    }
+    for mode in ["", "4", "20", "6", "7", "25", "4;20", "6;7", "7;6"] {
+        for last in ["h", "l"] {
+            csi(mode, last);
+            csi(&format!("?{mode}"), last);
+        }
+    }
+    for selector in [
+        "", "1", "4", "5", "7", "8", "22", "24", "25", "27", "1;4;5;7", "7;0", "1;;7",
+    ] {
+        csi(selector, "m");
+    }
+    for selector in ["", "0", "1", "2", "3"] {
+        csi(selector, "\"q");
+    }
+    for selector in ["5", "6", "?6", "?15", "", "?5", "15"] {
+        csi(selector, "n");
+    }
+    for selector in ["", "0", ">", ">0", "1", ">1", "?"] {
+        csi(selector, "c");
+    }
+    csi("", "!p");
+    // Two functions in a row.
+    for bytes in [
+        &b"\x1B7\x1B[3;3H\x1B8"[..],
+        b"\x1B7\x1B[?7l\x1B8q",
+        b"\x1B8q",
+        b"\x1B[!p\x1B8q",
+        b"\x1B[2J\x1Bc",
+        // Is origin on?
+        b"\x1B#8\x1B[5;9r\x1B[2H",
+        b"\x1B[!p\x1B[5;9r\x1B[2H",
+        b"\x1Bc\x1B[5;9r\x1B[2H",
+        b"\x1B8\x1B[5;9r\x1B[2H",
+        b"\x1B#8\n",
+        b"\x8D\x8D",
+        b"\x8Eq\x8Fq",
+        b"\x8E\x1Aqq",
+        b"\x8E\x18qq",
+        b"\x8E\xC1qq",
+    ] {
+        list.push(bytes.to_vec());
+    }
+    list
+}
+
+/// More parameters, what is not listed, and what is not well formed.
+fn odd(rows: u16) -> Vec<Vec<u8>> {
+    let mut list: Vec<Vec<u8>> = Vec::new();
+    for byte in 0x00..=0x1F {
+        list.push(vec![byte, b'q']);
+    }
+    for byte in 0x80..=0x9F {
+        list.push(vec![0x1B, byte - 0x40]);
+        list.push(vec![byte, b'q', b'r']);
+    }
+    for last in 0x30..=0x7E {
+        list.push(vec![0x1B, last]);
+    }
+    for last in [b"7", b"8", b"n", b"o", b"~", b"}", b"|"] {
+        list.push([b"\x1B", &last[..], b"q\xF1q"].concat());
+    }
+    for rest in ["#7", "#3", " H", "#8q", "##8", " #F", "  G"] {
+        list.push(format!("\x1B{rest}").into_bytes());
+    }
+    for slot in "()*+-./".chars() {
+        for set in ["B", "0", "A", "%5", "<", "%0", "%B", "5"] {
+            list.push(format!("\x1B{slot}{set}q\x0Eq\x1Bnq\x1Boq").into_bytes());
+        }
+    }
+    let mut csi = |parameters: &str, last: &str| {
+        list.push(format!("\x1B[{parameters}{last}").into_bytes());
+    };
+    let edge = rows.to_string();
+    let above = (rows - 1).to_string();
+    let beyond = (rows + 1).to_string();
+    for last in ["A", "B", "C", "D", "X", "L", "M", "@", "P"] {
+        for count in ["4", "7", "9", "10000", "0;7", ";2", "00", "001", &beyond] {
+            csi(count, last);
+        }
+    }
+    let places = [
+        "", "0", "1", "2", "5", "6", "7", "10", &above, &edge, &beyond, "9999",
+    ];
+    for row in places {
+        for column in ["", "0", "1", "80", "81", "10000"] {
+            csi(&format!("{row};{column}"), "H");
+        }
+    }
+    for top in places {
+        csi(top, "r");
+        for bottom in places {
+            csi(&format!("{top};{bottom}"), "r");
+        }
+    }
+    for last in ["J", "K"] {
+        for selector in ["4", "0;1", "1;2", ";1", "9999", "02"] {
+            csi(selector, last);
+            csi(&format!("?{selector}"), last);
+        }
+        csi(">", last);
+        csi("2 ", last);
+    }
+    for selector in ["0", "2", "4", "0;3", "3;0", "?3", "?"] {
+        csi(selector, "g\r\t");
+        csi(selector, "g\t\t");
+    }
+    for mode in ["20;4;4", "6;7;25", "7;7", "6;6", "99", "4;", ";20", "9999"] {
+        for last in ["h", "l"] {
+            csi(mode, last);
+            csi(&format!("?{mode}"), last);
+            csi(&format!("?{mode}"), &format!("{last}q"));
+        }
+    }
+    for mark in ["<", "=", ">", "??"] {
+        for last in ["h", "l"] {
+            csi(&format!("{mark}4;20"), last);
+            csi(&format!("{mark}6"), last);
+            csi(&format!("{mark}7"), last);
+        }
+        for last in ["A", "B", "C", "D", "H", "f", "X", "L", "M", "@", "P"] {
+            csi(&format!("{mark}3"), last);
+            csi("?3", last);
+        }
+        for last in ["J", "K"] {
+            csi(&format!("{mark}1"), last);
+        }
+        csi(&format!("{mark}5;9"), "r");
+        csi("?5;9", "r");
+        csi(&format!("{mark}7"), "mq");
+        csi(&format!("{mark}1"), "\"qq");
+        csi(mark, "!p");
+        csi(&format!("{mark}3"), "g\r\t");
+        csi(&format!("{mark}6"), "n");
+        csi(&format!("{mark}5"), "n");
+        csi(mark, "c");
+    }
+    for selector in [
+        "", "0", "1", "2", "21", "28", "0;7", "1;22;4", "?1", ">1", "1;0", ";1",
+    ] {
+        csi(selector, "mq");
+        csi(selector, "\"qw");
+    }
+    for selector in [
+        "0", "1", ">6", "5;6", "6;5", ";6", "?6;1", "?", "0;1", "=", "?0", "<0", ">0;1", "0006",
+        "60",
+    ] {
+        csi(selector, "n");
+        csi(selector, "c");
+    }
+    for selector in ["", "0", "1", "?"] {
+        csi(selector, "!pq");
+        csi(selector, "p");
+        csi(selector, "$p");
+        csi(selector, "!!p");
+    }
+    // Numbers that are small again if they are cut to 8, 16, 32 or 64 bits.
+    for (number, last) in [
+        ("262", "n"),
+        ("65542", "n"),
+        ("4294967302", "n"),
+        ("18446744073709551622", "n"),
+        ("65540", "hq"),
+        ("?65543", "h"),
+        ("257", "mq"),
+        ("65538", "J"),
+        ("65539", "g\r\t"),
+        ("65536", "C"),
+        ("65541;65545", "r"),
+        ("4294967297;4294967299", "H"),
+    ] {
+        csi(number, last);
+    }
+    // What is not listed, or not well formed.
+    for last in 0x40..=0x7Eu8 {
+        let last = (last as char).to_string();
+        csi("", &last);
+        csi("2", &last);
+        csi("?2", &last);
+        csi(">2", &last);
+        csi("2 ", &last);
+        csi("2:", &last);
+        csi("2!3", &last);
+    }
+    // Sixteen parameters, and more.
+    let many = |count: usize, last: &str| format!("{}{last}", ";".repeat(count - 1));
+    for count in [15, 16, 17, 18] {
+        csi(&many(count, "7"), "mq");
+        csi(&many(count, "4"), "hq");
+        csi(&format!("?{}", many(count, "6")), "h");
+        csi(&format!("2;3{}", many(count, "")), "H");
+    }
+    // Functions in a row.
+    for bytes in [
+        &b"\x1B8\x1B8"[..],
+        b"\x1Bcq",
+        b"\x08\x08q",
+        b"\n\n",
+        b"\x1BM\x1BM\x1BM\x1BM\x1BM\x1BM\x1BM",
+        b"\n\n\n\n\n\n\n\n\n\n\n\n\n\n\n\n\n\n\n\n\n\n\n\n\nq",
+        b"\x8E\x8Fqq",
+        b"\x8E\x1B[!pqq",
+        b"\x8E\x1Bcqq",
+        b"\x8E\x7F\xA0qq",
+        b"\x1BP abc\x1B\\q",
+        b"\x1BPabc\x9Cq",
+        b"\x9Dabc\x18q",
+        b"\x9Fabc\x1Aq",
+    ] {
+        list.push(bytes.to_vec());
+    }
+    list
+}
+
+/// A word that printing could leave, but for its flags and unused bits.
+fn word_of(row: u16, column: u16) -> u16 {
+    let code = 0x41 + (row * 5 + column) % 58;
+    let set = if (row + column) % 3 == 0 { 0x80 } else { 0 };
+    let flags = (row * 7 + column * 3) % 128;
+    code | set | flags << 9
+}
+
+/// The columns near a column.
+fn near(column: u16) -> Vec<u16> {
+    let first = column.saturating_sub(2).max(1);
+    (first..=(column + 2).min(80)).collect()
+}
+
+/// The rows near a row.
+fn near_rows(row: u16, rows: u16) -> Vec<u16> {
+    (row.saturating_sub(1).max(1)..=(row + 1).min(rows)).collect()
+}
+
+/// With 24 rows every listed function in every situation, with 36 and 48 rows
+/// every sixth, in turn; of the odd ones every twentieth, in turn.
+pub fn functions_at_the_edges() -> Script {
+    let mut s = Script::new();
+    let mut number = 0usize;
+    for rows in SIZES {
+        let listed = listed(rows);
+        let odd = odd(rows);
+        for (p, preparation) in preparations(rows).iter().enumerate() {
+            let turn = p + rows as usize / 12;
+            let every = if rows == 24 { 1 } else { 6 };
+            let functions = listed.iter().skip(turn % every).step_by(every);
+            for function in functions.chain(odd.iter().skip(turn % 20).step_by(20)) {
+                number += 1;
+                let (row, column) = (preparation.row, preparation.column);
+                s.start_right(rows);
+                // Something in every row, and around the cursor.
+                for row in 1..=rows {
+                    let column = 1 + (row * 13) % 80;
+                    s.word_at(row, column, word_of(row, column));
+                }
+                for row in near_rows(row, rows) {
+                    for column in near(column) {
+                        s.word_at(row, column, word_of(row, column));
+                    }
+                }
+                s.feed(&preparation.bytes, 0);
+                s.ask();
+                s.feed(function, ROOM);
+                s.feed(b"", 0);
+                s.ask();
+                for column in near(column) {
+                    s.read(row, column);
+                }
+                for row in near_rows(row, rows) {
+                    s.read(row, 1);
+                    s.read(row, column);
+                }
+                s.feed(b"\x1B[6n", ROOM);
+                s.feed(b"\x1B[?6n", ROOM);
+                match number % 12 {
+                    0 => s.page(),
+                    6 => s.text(),
+                    _ => {}
+                }
+                // Wrap due, the sets and the shift show in what is printed.
+                s.feed(b"q\xF1", 0);
+                s.ask();
+                s.feed(b"\x1B[6n", ROOM);
+                s.read(row, column);
+                s.read(row, column.min(79) + 1);
+                s.read(row, 80);
+                s.read(row.min(rows - 1) + 1, 1);
+                match number % 12 {
+                    3 | 9 => s.page(),
+                    5 | 11 => s.text(),
+                    _ => {}
+                }
+            }
+        }
+    }
+    s
+}
+
+// ---- Every byte in each phase -----------------------------------------------
+
+/// Bytes that bring the parser into each of its phases.
+const PHASES: [&[u8]; 34] = [
+    b"",
+    b"\x1B",
+    b"\x1B ",
+    b"\x1B#",
+    b"\x1B(",
+    b"\x1B-",
+    b"\x1B(%",
+    b"\x1B !",
+    b"\x1B###",
+    b"\x1B(((((",
+    b"\x1B[",
+    b"\x9B",
+    b"\x1B[?",
+    b"\x1B[>",
+    b"\x1B[<",
+    b"\x1B[3",
+    b"\x1B[;",
+    b"\x1B[3;4",
+    b"\x1B[?7",
+    b"\x1B[;;;;;;;;;;;;;;;9",
+    b"\x1B[;;;;;;;;;;;;;;;;9",
+    b"\x1B[9999",
+    b"\x1B[!",
+    b"\x1B[1\"",
+    b"\x1B[?1\"",
+    b"\x1B[1\"!",
+    b"\x1B[1!!!",
+    b"\x1B[1:",
+    b"\x1B[1?",
+    b"\x1B[??",
+    b"\x1B[1!2",
+    b"\x1BP",
+    b"\x98",
+    b"\x1B]abc",
+];
+
+/// Every byte in each phase of the parser, once on a fresh page and once with
+/// wrap due in margins with a shift pending; then a text that tells which phase
+/// it came to.
+pub fn bytes_in_each_phase() -> Script {
+    let befores: [&[u8]; 2] = [b"", b"\x1B[2;4r\x1B[?7h\x1B*0\x1B[4;80Hz\x8E"];
+    let markers: [&[u8]; 3] = [b";5H1x", b"3 5\"\x1B[;5H0q", b"%5Bx\x0Ey"];
+    let mut s = Script::new();
+    let mut number = 0usize;
+    for before in befores {
+        for phase in PHASES {
+            for byte in 0..=255u8 {
+                s.start_right(24);
+                s.feed(before, 0);
+                s.feed(phase, ROOM);
+                s.ask();
+                s.feed(&[byte], ROOM);
+                s.ask();
+                s.feed(markers[number % 3], ROOM);
+                number += 1;
+                s.ask();
+                s.text();
+                s.feed(b"\x18\x1B[6n", ROOM);
+                s.feed(b"q", 0);
+                s.read(1, 1);
+                s.read(4, 1);
+                s.read(4, 80);
+            }
+        }
+    }
+    s
+}
+
+// ---- The room for replies ---------------------------------------------------
+
+/// Every reply with every room from 0 to 13, with and without bytes after it.
+pub fn rooms() -> Script {
+    let queries: [&[u8]; 9] = [
+        b"\x1B[c",
+        b"\x1B[0c",
+        b"\x9A",
+        b"\x1BZ",
+        b"\x1B[>c",
+        b"\x1B[5n",
+        b"\x1B[6n",
+        b"\x1B[?6n",
+        b"\x1B[?15n",
+    ];
+    let befores: [&[u8]; 4] = [
+        b"",
+        b"\x1B G",
+        b"\x1B[99;99H",
+        b"\x1B G\x1B[10;20r\x1B[?6h\x1B[99;99H",
+    ];
+    let mut s = Script::new();
+    for rows in SIZES {
+        for before in befores {
+            for query in queries {
+                for room in 0..=13 {
+                    s.start_right(rows);
+                    s.feed(before, 0);
+                    s.feed(&[b"ab", query, b"cd"].concat(), room);
+                    s.ask();
+                    // After answer 3 the last byte of the query is still due.
+                    s.feed(&query[query.len() - 1..], room);
+                    s.feed(&query[query.len() - 1..], room + 5);
+                    s.feed(b"\x18x", 0);
+                    look(&mut s);
+                    s.feed(&[query, query, b"e"].concat(), 2 * room);
+                    look(&mut s);
+                }
+            }
+        }
+        // A full reply buffer, and a very long input.
+        s.start_right(rows);
+        s.feed(&b"\x1B[6n".repeat(1_000), MOST_ROOM as u16);
+        s.feed(&b"x\x1B[c".repeat(1_000), MOST_ROOM as u16);
+        look(&mut s);
+        s.start_right(rows);
+        s.feed(&stream(rows as u64, 65_535), MOST_ROOM as u16);
+        look(&mut s);
+        s.page();
+    }
+    s
+}
+
+// ---- Broken states ----------------------------------------------------------
+
+const FIELDS: [u16; 12] = [
+    ROWS,
+    ROW,
+    COLUMN,
+    WRAP_DUE,
+    TOP,
+    BOTTOM,
+    ORIGIN,
+    AUTOWRAP,
+    SAVED_ROW,
+    SAVED_COLUMN,
+    SAVED_WRAP_DUE,
+    CHANGED_ROW,
+];
+
+const VALUES: [u16; 38] = [
+    0, 1, 2, 4, 5, 6, 9, 10, 11, 22, 23, 24, 25, 26, 34, 35, 36, 37, 46, 47, 48, 49, 50, 62, 63,
+    64, 65, 78, 79, 80, 81, 127, 128, 254, 255, 256, 280, 65535,
+];
+
+/// All four calls on a state that may be broken.
+fn all_calls(s: &mut Script, rows: u16) {
+    s.feed(b"", 3);
+    s.read(1, 1);
+    s.read(rows, 80);
+    s.read(rows + 1, 80);
+    s.read(0, 1);
+    s.feed(b"q\x1B[6n", ROOM);
+    s.ask();
+    s.feed(b"\x1B8q", ROOM);
+    s.feed(b"\n\x1B[6n\x1B[?6n", 2 * ROOM);
+    s.ask();
+    s.text();
+}
+
+/// Each field set to values at and beyond the edges, in several situations;
+/// then two fields at once.
+pub fn broken_states() -> Script {
+    let befores: [&[u8]; 6] = [
+        b"",
+        b"\x1B[5;10r\x1B[?6h\x1B[3;80H",
+        b"\x1B[?7h\x1B[7;80Hz\x1B7",
+        b"\x1B[99;99H",
+        b"\x1B[?7h\x1B[99;99Hz\x1B7\x1B[3",
+        b"\x1B[23r\x1B[?6h\x1B[9;9H\x1B7",
+    ];
+    let mut s = Script::new();
+    for rows in SIZES {
+        for before in befores {
+            for field in FIELDS {
+                for value in VALUES {
+                    s.start_right(rows);
+                    s.feed(before, 0);
+                    s.field(field, value);
+                    all_calls(&mut s, rows);
+                    s.start_right(rows);
+                    s.feed(b"\x1B[6n", ROOM);
+                }
+            }
+        }
+    }
+    // Every row in the set.
+    for rows in SIZES {
+        for row in 0..=65 {
+            s.start_right(rows);
+            s.field(CHANGED_ROW, row);
+            s.feed(b"\n\nx", 0);
+            s.ask();
+        }
+        s.start_right(rows);
+        for row in 1..=rows {
+            s.field(CHANGED_ROW, row);
+        }
+        s.feed(b"\x1Bc", 0);
+        s.ask();
+        s.ask();
+    }
+    // Two or three fields, then the last one put right again.
+    let mut random = Random::new(1);
+    for _ in 0..3_000 {
+        let rows = random.pick(&SIZES);
+        let before = random.pick(&befores);
+        s.start_right(rows);
+        s.feed(before, 0);
+        for _ in 0..random.between(2, 3) {
+            let (field, value) = (random.pick(&FIELDS), random.pick(&VALUES));
+            s.field(field, value);
+        }
+        if random.percent(20) {
+            s.lend(random.pick(&[1919, 1920, 2880, 3840]));
+        }
+        all_calls(&mut s, rows);
+        s.field(WRAP_DUE, 0);
+        s.field(ROW, 7);
+        s.field(COLUMN, 7);
+        s.field(TOP, 6);
+        s.field(BOTTOM, 8);
+        s.field(ROWS, rows);
+        s.feed(b"x\x1B[6n", ROOM);
+        s.ask();
+        s.start_right(rows);
+        s.feed(b"", 0);
+    }
+    s
+}
+
+// ---- Wrong lengths ----------------------------------------------------------
+
+const LENGTHS: [u16; 24] = [
+    0, 1, 24, 79, 80, 81, 1840, 1919, 1920, 1921, 2000, 2048, 2879, 2880, 2881, 3839, 3840, 3841,
+    3920, 4080, 4095, 4096, 4097, 65535,
+];
+
+/// Pages of every length that might be taken for a right one, with states whole
+/// and broken, with cells on and off the page.
+pub fn wrong_lengths() -> Script {
+    let mut s = Script::new();
+    for rows in SIZES {
+        for length in LENGTHS {
+            for broken in [false, true] {
+                s.start_right(rows);
+                s.feed(b"ab\x1B[3", 0);
+                if broken {
+                    s.field(TOP, 0);
+                }
+                s.lend(length);
+                s.feed(b"", 2);
+                s.feed(b"Cx\x1B[6n", ROOM);
+                for (row, column) in [
+                    (1, 1),
+                    (1, 2),
+                    (0, 1),
+                    (1, 0),
+                    (1, 81),
+                    (rows, 80),
+                    (rows + 1, 1),
+                    (255, 255),
+                    (256, 1),
+                    (257, 257),
+                    (65535, 65535),
+                ] {
+                    s.read(row, column);
+                }
+                s.ask();
+                s.lend(rows * 80);
+                s.feed(b"Cx\x1B[6n", ROOM);
+                s.text();
+                s.ask();
+                s.start_right(rows);
+            }
+        }
+        // Every row and column near the edges of a page.
+        s.start_right(rows);
+        s.feed(b"\x1B#8", 0);
+        for row in 0..=rows + 2 {
+            for column in [0, 1, 2, 79, 80, 81, 82, 256] {
+                s.read(row, column);
+            }
+        }
+        for column in 0..=85 {
+            s.read(rows, column);
+        }
+    }
+    s
+}
+
+/// A start with every R, on pages of right and wrong lengths. What is on the
+/// page must stay where the start is refused, and the state is then fresh with
+/// 24 rows.
+pub fn all_starts() -> Script {
+    let mut s = Script::new();
+    for rows in 0..=255u16 {
+        let mut lengths = vec![0, 80, 1920, 2880, 3840, 4096];
+        let right = rows * 80;
+        if right <= 4_096 {
+            lengths.extend([right, right + 1, right.saturating_sub(1)]);
+        }
+        if SIZES.contains(&rows) {
+            lengths.extend(LENGTHS);
+        }
+        for length in lengths {
+            s.start_right(48);
+            s.feed(b"q\x1B[9;9r\x1B[30;70Hxy", 0);
+            s.word(100, 0xFFFF);
+            s.start(rows, length);
+            s.read(1, 1);
+            s.lend(1920);
+            s.feed(b"z\x1B[99;99H\x1B[6n", ROOM);
+            s.ask();
+            s.read(1, 1);
+            s.read(1, 2);
+            s.read(2, 21);
+            s.lend(3840);
+            if rows % 8 == 0 || SIZES.contains(&rows) {
+                s.page();
+            }
+        }
+    }
+    // R is taken modulo 256.
+    for rows in [256, 280, 292, 304, 65535, 24 * 256] {
+        s.start(rows, 1920);
+        s.start(rows, 2880);
+        s.start(rows, 3840);
+        s.feed(b"\x1B[99;99H\x1B[6n", ROOM);
+    }
+    s
+}
+
+// ---- The text of every word -------------------------------------------------
+
+/// Is the word's text settled by document 01 beyond doubt? (1A in another set
+/// than ASCII, Special Graphics 7F, and codes that nothing prints are not.)
+pub fn is_settled(word: u16) -> bool {
+    let code = word & 0x7F;
+    match word >> 7 & 3 {
+        0 => code == 0x1A || (0x20..=0x7E).contains(&code),
+        1 => (0x20..=0x7E).contains(&code),
+        2 => code >= 0x20,
+        _ => code >= 0x20,
+    }
+}
+
+/// The text of every word, settled or not; no part of the whole, for there the
+/// paper leaves room.
+pub fn text_of_every_word() -> Script {
+    let mut s = Script::new();
+    s.start_right(24);
+    s.lend(80);
+    for word in 0..=65_535u16 {
+        s.word(word % 80, word);
+        if word % 80 == 79 || word == 65_535 {
+            s.text();
+        }
+    }
+    s
+}
+
+// ---- Streams ----------------------------------------------------------------
+
+/// Streams of every kind until `bytes` bytes are fed.
+pub fn streams(seed: u64, bytes: usize) -> Script {
+    let mut random = Random::new(seed ^ 0x0123_4567_89AB_CDEF);
+    let mut session = Session {
+        script: Script::new(),
+        rows: 24,
+        settled: true,
+    };
+    session.start(24);
+    while session.script.input < bytes {
+        let left = (bytes - session.script.input).max(20);
+        let length = random.pick(&[50, 300, 1_000, 3_000, 6_000]).min(left);
+        if random.percent(70) {
+            session.start(random.pick(&SIZES));
+        }
+        if random.percent(30) {
+            session.junk(&mut random);
+        }
+        let mut stream = match random.below(10) {
+            0 => (0..length).map(|_| random.byte(0x00, 0xFF)).collect(),
+            _ => stream(random.next(), length),
+        };
+        if random.percent(25) {
+            damage(&mut random, &mut stream);
+        }
+        session.feed(&mut random, &stream);
+    }
+    session.script
+}
+
+/// Flips, changes, inserts and drops bytes.
+fn damage(random: &mut Random, bytes: &mut Vec<u8>) {
+    let often = random.pick(&[10, 40, 200]);
+    for _ in 0..bytes.len() / often + 1 {
+        if bytes.is_empty() {
+            return;
+        }
+        let place = random.below(bytes.len());
+        match random.below(5) {
+            0 => bytes[place] ^= 1 << random.below(8),
+            1 => bytes[place] = random.byte(0x00, 0xFF),
+            2 => bytes.insert(place, random.byte(0x00, 0xFF)),
+            3 => {
+                bytes.remove(place);
+            }
+            _ => {
+                let end = (place + random.between(1, 6)).min(bytes.len());
+                bytes.drain(place..end);
+            }
+        }
+    }
+}
+
+struct Session {
+    script: Script,
+    rows: u16,
+    /// Only words whose text is settled were written into the page.
+    settled: bool,
+}
+
+impl Session {
+    fn start(&mut self, rows: u16) {
+        self.script.start_right(rows);
+        self.rows = rows;
+        self.settled = true;
+    }
+
+    /// Random words into the page, and now and then beyond it.
+    fn junk(&mut self, random: &mut Random) {
+        let only_settled = random.percent(60);
+        let count = random.pick(&[1, 5, 20, 200]);
+        for _ in 0..count {
+            let mut word = random.next() as u16;
+            if only_settled {
+                // Any flags and unused bits.
+                while !is_settled(word) {
+                    word = random.next() as u16;
+                }
+            }
+            let place = if random.percent(95) {
+                random.below(self.rows as usize * 80)
+            } else {
+                random.below(5_000)
+            };
+            self.script.word(place as u16, word);
+            self.settled &= is_settled(word);
+        }
+    }
+
+    fn text(&mut self) {
+        if self.settled {
+            self.script.text();
+        } else {
+            self.script.page();
+        }
+    }
+
+    /// Feeds the stream in pieces, with calls between them. What a piece leaves
+    /// after answer 3 is mostly dropped.
+    fn feed(&mut self, random: &mut Random, stream: &[u8]) {
+        let longest = random.pick(&[1, 8, 8, 30, 100, 200]);
+        let mut rest = stream;
+        while !rest.is_empty() {
+            let length = random.between(1, longest).min(rest.len());
+            let (piece, after) = rest.split_at(length);
+            let room = match random.below(8) {
+                0 => random.between(0, 10),
+                1 | 2 => random.between(11, 40),
+                3..=5 => 40,
+                _ => 11 * length.min(30),
+            };
+            self.script.feed(piece, room as u16);
+            if room < 11 && random.percent(50) {
+                // The last byte again, with room: a query cut off by answer 3
+                // may go on with it.
+                self.script.feed(&piece[length - 1..], 11);
+            }
+            rest = after;
+            // As often for each byte, whatever the length of the pieces.
+            if !random.percent((length * 2 + 4).min(60)) {
+                continue;
+            }
+            match random.below(40) {
+                0..=11 => self.script.ask(),
+                12..=25 => {
+                    for _ in 0..random.between(1, 6) {
+                        let row = random.between(1, self.rows as usize);
+                        let column = random.pick(&[1, 2, 40, 79, 80]);
+                        self.script.read(row as u16, column);
+                    }
+                }
+                26 => {
+                    let row = random.pick(&[0, 1, 24, 25, 36, 37, 48, 49, 256, 65535]);
+                    let column = random.pick(&[0, 1, 80, 81, 256, 65535]);
+                    self.script.read(row, column);
+                }
+                27..=29 => self.text(),
+                30 => self.script.page(),
+                31..=36 => {
+                    let query: &[u8] = random.pick(&[b"\x1B[6n", b"\x1B[?6n"]);
+                    self.script.feed(query, ROOM);
+                }
+                37 => {
+                    // One word, with whatever in it.
+                    let word = random.next() as u16;
+                    if is_settled(word) || !self.settled {
+                        let place = random.below(self.rows as usize * 80);
+                        self.script.word(place as u16, word);
+                    }
+                }
+                38 => {
+                    // A wrong length for a while.
+                    self.script.lend(random.pick(&LENGTHS));
+                    self.script.feed(piece, ROOM);
+                    self.script.read(1, 1);
+                    self.script.ask();
+                    if random.percent(25) {
+                        // What lies beyond the page, too.
+                        self.script.lend(BUFFER_WORDS as u16);
+                        self.script.page();
+                    }
+                    self.script.lend(self.rows * 80);
+                }
+                _ => self.script.feed(b"", room as u16),
+            }
+        }
+        self.script.ask();
+        self.text();
+    }
+}
+
+#[cfg(test)]
+mod tests {
+    use super::*;
+
+    #[test]
+    fn a_script_depends_on_its_seed_alone() {
+        assert_eq!(streams(5, 20_000).bytes, streams(5, 20_000).bytes);
+        assert_ne!(streams(5, 2_000).bytes, streams(6, 2_000).bytes);
+        let script = streams(7, 50_000);
+        assert!(script.input >= 50_000 && script.input < 52_000);
+    }
+
+    #[test]
+    fn scripts_are_read_to_their_end() {
+        for part in fixed_parts().iter().chain([&streams(3, 30_000)]) {
+            let (mut count, mut input, mut length) = (0, 0, 0);
+            for command in commands(&part.bytes) {
+                count += 1;
+                input += command.input.len();
+                length += 5 + command.input.len();
+            }
+            assert_eq!(length, part.bytes.len());
+            assert_eq!((count, input), (part.commands, part.input));
+        }
+    }
+}

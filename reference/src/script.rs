@@ -1,0 +1,413 @@
+//! Scripts of calls: building one, and carrying one out with this program's
+//! calls. Another program that carries out the same script must write the same
+//! output, byte for byte. The format is in README.md.
+
+use crate::calls::{ask, feed, read_cell, start};
+use crate::page::COLUMNS;
+use crate::state::State;
+use crate::text::text;
+
+/// The words in the buffer; also the most reply bytes that a feeding is lent.
+pub const BUFFER_WORDS: usize = 4_096;
+pub const MOST_ROOM: usize = 4_096;
+
+/// What every reply byte is before a feeding.
+const UNTOUCHED: u8 = 0xEE;
+
+/// The fields that `Script::field` names.
+pub const ROWS: u16 = 0;
+pub const ROW: u16 = 1;
+pub const COLUMN: u16 = 2;
+pub const WRAP_DUE: u16 = 3;
+pub const TOP: u16 = 4;
+pub const BOTTOM: u16 = 5;
+pub const ORIGIN: u16 = 6;
+pub const AUTOWRAP: u16 = 7;
+pub const SAVED_ROW: u16 = 8;
+pub const SAVED_COLUMN: u16 = 9;
+pub const SAVED_WRAP_DUE: u16 = 10;
+pub const CHANGED_ROW: u16 = 12;
+
+/// A script being built.
+#[derive(Clone, Default)]
+pub struct Script {
+    pub bytes: Vec<u8>,
+    pub commands: usize,
+    /// The input bytes of all feedings.
+    pub input: usize,
+}
+
+impl Script {
+    pub fn new() -> Script {
+        Script::default()
+    }
+
+    pub fn command(&mut self, letter: u8, a: u16, b: u16) {
+        self.bytes.push(letter);
+        self.bytes.extend_from_slice(&a.to_le_bytes());
+        self.bytes.extend_from_slice(&b.to_le_bytes());
+        self.commands += 1;
+    }
+
+    /// A start on a page of so many words.
+    pub fn start(&mut self, rows: u16, words: u16) {
+        self.command(b'S', rows, words);
+    }
+
+    /// A start on a page of the right length.
+    pub fn start_right(&mut self, rows: u16) {
+        self.start(rows, rows * COLUMNS as u16);
+    }
+
+    pub fn lend(&mut self, words: u16) {
+        self.command(b'L', words, 0);
+    }
+
+    /// At most 65,535 bytes.
+    pub fn feed(&mut self, input: &[u8], room: u16) {
+        assert!(input.len() <= 0xFFFF && room as usize <= MOST_ROOM);
+        self.command(b'F', input.len() as u16, room);
+        self.bytes.extend_from_slice(input);
+        self.input += input.len();
+    }
+
+    pub fn ask(&mut self) {
+        self.command(b'A', 0, 0);
+    }
+
+    pub fn read(&mut self, row: u16, column: u16) {
+        self.command(b'R', row, column);
+    }
+
+    pub fn page(&mut self) {
+        self.command(b'P', 0, 0);
+    }
+
+    pub fn text(&mut self) {
+        self.command(b'T', 0, 0);
+    }
+
+    pub fn word(&mut self, number: u16, word: u16) {
+        self.command(b'W', number, word);
+    }
+
+    /// The word at a row and column of the page, both from 1.
+    pub fn word_at(&mut self, row: u16, column: u16, word: u16) {
+        self.word((row - 1) * COLUMNS as u16 + (column - 1), word);
+    }
+
+    pub fn field(&mut self, field: u16, value: u16) {
+        self.command(b'B', field, value);
+    }
+
+    pub fn append(&mut self, other: &Script) {
+        self.bytes.extend_from_slice(&other.bytes);
+        self.commands += other.commands;
+        self.input += other.input;
+    }
+}
+
+/// One command of a script.
+#[derive(Clone, Copy, PartialEq, Eq, Debug)]
+pub struct Command<'a> {
+    pub letter: u8,
+    pub a: u16,
+    pub b: u16,
+    /// What a feeding is fed.
+    pub input: &'a [u8],
+}
+
+/// The first command, and the script after it; none at the end of the script,
+/// at another letter, or if a feeding's input is cut short.
+pub fn first_command(script: &[u8]) -> Option<(Command<'_>, &[u8])> {
+    let (head, rest) = script.split_at_checked(5)?;
+    let letter = head[0];
+    let a = u16::from_le_bytes([head[1], head[2]]);
+    let b = u16::from_le_bytes([head[3], head[4]]);
+    let length = match letter {
+        b'F' => a as usize,
+        b'S' | b'L' | b'A' | b'R' | b'P' | b'T' | b'W' | b'B' => 0,
+        _ => return None,
+    };
+    let (input, rest) = rest.split_at_checked(length)?;
+    let command = Command {
+        letter,
+        a,
+        b,
+        input,
+    };
+    Some((command, rest))
+}
+
+/// The commands of a script, to its end.
+pub fn commands(script: &[u8]) -> impl Iterator<Item = Command<'_>> {
+    let mut rest = script;
+    std::iter::from_fn(move || {
+        let (command, after) = first_command(rest)?;
+        rest = after;
+        Some(command)
+    })
+}
+
+/// The buffer, how much of it is lent, and the newest state.
+pub struct Machine {
+    buffer: Vec<u16>,
+    lent: usize,
+    state: State,
+}
+
+impl Default for Machine {
+    fn default() -> Machine {
+        Machine::new()
+    }
+}
+
+impl Machine {
+    pub fn new() -> Machine {
+        let mut buffer = vec![0; BUFFER_WORDS];
+        // Refused: the buffer is no page of 24 rows.
+        let (_, state) = start(24, &mut buffer);
+        Machine {
+            buffer,
+            lent: 0,
+            state,
+        }
+    }
+
+    pub fn state(&self) -> &State {
+        &self.state
+    }
+
+    /// Carries out one command; what it writes is added to the output.
+    pub fn carry_out(&mut self, command: Command, output: &mut Vec<u8>) {
+        let Command { letter, a, b, .. } = command;
+        match letter {
+            b'S' => {
+                self.lent = (b as usize).min(BUFFER_WORDS);
+                let page = &mut self.buffer[..self.lent];
+                let (answer, state) = start((a % 256) as usize, page);
+                self.state = state;
+                output.extend_from_slice(&[b'S', answer]);
+            }
+            b'L' => self.lent = (a as usize).min(BUFFER_WORDS),
+            b'F' => {
+                let mut reply = vec![UNTOUCHED; (b as usize).min(MOST_ROOM)];
+                let page = &mut self.buffer[..self.lent];
+                let (answer, read, replied, state) =
+                    feed(&self.state, page, command.input, &mut reply);
+                self.state = state;
+                output.extend_from_slice(&[b'F', answer]);
+                output.extend_from_slice(&(read as u16).to_le_bytes());
+                output.extend_from_slice(&(replied as u16).to_le_bytes());
+                output.extend_from_slice(&reply);
+            }
+            b'A' => {
+                let (answer, rows, count, state) = ask(&self.state);
+                self.state = state;
+                let mut set = [0u8; 8];
+                for row in rows {
+                    set[(row - 1) / 8] |= 1 << ((row - 1) % 8);
+                }
+                output.extend_from_slice(&[b'A', answer]);
+                output.extend_from_slice(&set);
+                output.push(count as u8);
+            }
+            b'R' => {
+                let page = &self.buffer[..self.lent];
+                let (answer, word) = read_cell(&self.state, page, a as usize, b as usize);
+                output.extend_from_slice(&[b'R', answer]);
+                output.extend_from_slice(&word.to_le_bytes());
+            }
+            b'P' => {
+                output.push(b'P');
+                for word in &self.buffer[..self.lent] {
+                    output.extend_from_slice(&word.to_le_bytes());
+                }
+            }
+            b'T' => {
+                let whole_rows = self.lent / COLUMNS * COLUMNS;
+                let lines = text(&self.buffer[..whole_rows]);
+                output.push(b'T');
+                output.extend_from_slice(&(lines.len() as u16).to_le_bytes());
+                output.extend_from_slice(&lines);
+            }
+            b'W' => {
+                if let Some(word) = self.buffer.get_mut(a as usize) {
+                    *word = b;
+                }
+            }
+            b'B' => self.set_field(a, b),
+            _ => {}
+        }
+    }
+
+    fn set_field(&mut self, field: u16, value: u16) {
+        let state = &mut self.state;
+        let number = (value % 256) as usize;
+        let flag = number != 0;
+        match field {
+            ROWS => state.rows = number,
+            ROW => state.cursor.row = number,
+            COLUMN => state.cursor.column = number,
+            WRAP_DUE => state.cursor.wrap_due = flag,
+            TOP => state.top = number,
+            BOTTOM => state.bottom = number,
+            ORIGIN => state.origin = flag,
+            AUTOWRAP => state.autowrap = flag,
+            SAVED_ROW => state.saved.cursor.row = number,
+            SAVED_COLUMN => state.saved.cursor.column = number,
+            SAVED_WRAP_DUE => state.saved.cursor.wrap_due = flag,
+            CHANGED_ROW => {
+                state.changed.insert((value as usize + 63) % 64 + 1);
+            }
+            _ => {}
+        }
+    }
+}
+
+/// Carries out a script and returns what its commands wrote.
+pub fn carry_out(script: &[u8]) -> Vec<u8> {
+    let mut machine = Machine::new();
+    let mut output = Vec::new();
+    for command in commands(script) {
+        machine.carry_out(command, &mut output);
+    }
+    output
+}
+
+#[cfg(test)]
+mod tests {
+    use super::*;
+
+    fn answered(build: impl Fn(&mut Script)) -> Vec<u8> {
+        let mut script = Script::new();
+        build(&mut script);
+        carry_out(&script.bytes)
+    }
+
+    #[test]
+    fn before_the_first_start() {
+        // No words are lent; the state is fresh with 24 rows.
+        let output = answered(|s| {
+            s.page();
+            s.text();
+            s.ask();
+            s.read(1, 1);
+            s.feed(b"x", 2);
+            s.lend(1920);
+            s.read(1, 1);
+            s.read(25, 1);
+            s.feed(b"x", 0);
+            s.ask();
+        });
+        let expected: [&[u8]; 10] = [
+            b"P",
+            b"T\0\0",
+            b"A\0\0\0\0\0\0\0\0\0\0",
+            b"R\x02\x20\0",
+            b"F\x02\0\0\0\0\xEE\xEE",
+            b"",
+            b"R\0\0\0",
+            b"R\x04\x20\0",
+            b"F\0\x01\0\0\0",
+            b"A\0\x01\0\0\0\0\0\0\0\x01",
+        ];
+        assert_eq!(output, expected.concat());
+    }
+
+    #[test]
+    fn a_refused_start_leaves_the_fresh_state_of_24_rows() {
+        let output = answered(|s| {
+            s.start_right(48);
+            s.feed(b"x", 0);
+            s.start(25, 2000);
+            s.read(1, 1);
+            s.lend(1920);
+            s.read(1, 1);
+            s.feed(b"\x1B[99;99H\x1B[6n", 8);
+            s.ask();
+            // R is taken modulo 256.
+            s.start(256 + 24, 1920);
+            s.start(24, 5000);
+            s.page();
+        });
+        let mut expected: Vec<u8> = [
+            &b"S\0"[..],
+            b"F\0\x01\0\0\0",
+            b"S\x01",
+            b"R\x02\x20\0",
+            b"R\0x\0",
+            b"F\0\x0C\0\x08\0\x1B[24;80R",
+            b"A\0\0\0\0\0\0\0\0\0\0",
+            b"S\0",
+            b"S\x02",
+            b"P",
+        ]
+        .concat();
+        expected.extend([0x20, 0].repeat(3840));
+        expected.extend([0, 0].repeat(256));
+        assert_eq!(output, expected);
+    }
+
+    #[test]
+    fn fields_words_and_rows_are_as_the_format_says() {
+        let output = answered(|s| {
+            s.start_right(24);
+            s.field(ROW, 256 + 3);
+            s.field(COLUMN, 80);
+            s.feed(b"\x1B[6n", 7);
+            // Broken: wrap due without autowrap. What is no field is left.
+            s.field(WRAP_DUE, 2);
+            s.field(11, 1);
+            s.field(13, 1);
+            s.field(65535, 1);
+            s.feed(b"x", 1);
+            s.ask();
+            s.field(AUTOWRAP, 1);
+            s.field(WRAP_DUE, 256);
+            s.field(WRAP_DUE, 1);
+            s.feed(b"x", 0);
+            s.ask();
+            // Row 64 is no row of the page.
+            s.field(CHANGED_ROW, 1);
+            s.field(CHANGED_ROW, 66);
+            s.ask();
+            s.field(CHANGED_ROW, 0);
+            s.ask();
+            // A word beyond the page, and one beyond the buffer.
+            s.start_right(24);
+            s.word(1920, 0xABCD);
+            s.word(4095, 0x1234);
+            s.word(4096, 0x4444);
+            s.word_at(24, 80, 0xFFC1);
+            s.read(24, 80);
+            s.lend(2000);
+            s.text();
+            s.command(b'?', 0, 0);
+            s.ask();
+        });
+        let mut expected: Vec<u8> = [
+            &b"S\0"[..],
+            b"F\0\x04\0\x07\0\x1B[3;80R",
+            b"F\x01\0\0\0\0\xEE",
+            b"A\x01\0\0\0\0\0\0\0\0\0",
+            b"F\0\x01\0\0\0",
+            b"A\0\x08\0\0\0\0\0\0\0\x01",
+            b"A\0\x03\0\0\0\0\0\0\0\x02",
+            b"A\x01\0\0\0\0\0\0\0\0\0",
+            b"S\0",
+            b"R\0\xC1\xFF",
+        ]
+        .concat();
+        let lines = format!(
+            "{}{}{}\n",
+            "\n".repeat(23),
+            " ".repeat(79),
+            format!("\u{C1}\n\u{CD}{}", "\0".repeat(79))
+        );
+        expected.push(b'T');
+        expected.extend((lines.len() as u16).to_le_bytes());
+        expected.extend(lines.into_bytes());
+        assert_eq!(output, expected);
+    }
+}
