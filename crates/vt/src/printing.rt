@@ -5,6 +5,7 @@ use crate::charsets::has_96;
 use crate::core::Core;
 use crate::core::Decision;
 use crate::core::Margins;
+use crate::core::Modes;
 use crate::cursor::Cursor;
 use crate::effects::only;
 use crate::effects::quiet;
@@ -21,6 +22,7 @@ ghost use Rattle.cells.specs.declared.Edit.the-variants.{Keep, Put, InsertCells
 ghost use Rattle.cells.specs.Cells.{setNumber, bit, renditionBits, packed};
 ghost use Rattle.vt.specs.Bounds.{Bounds};
 ghost use Rattle.vt.specs.Charsets.{leftSet, rightSet};
+ghost use Rattle.vt.specs.Strokes.{stroke};
 ghost use Rattle.vt.specs.Printing as printing;
 
 // ---- the cell
@@ -51,7 +53,7 @@ fn rendition_bits(rendition: Rendition) -> u16
         + 8 * bit_of(rendition.reverse)
 }
 
-fn pack(cell: Cell) -> u16
+pub fn pack(cell: Cell) -> u16
     ensures { λ r. ⌜ r ≡ packed cell ⌝ }
 {
     let set = cell.set;
@@ -76,7 +78,7 @@ fn cell_word(core: Core, code: u8, set: CharSet) -> u16
 }
 
 // The set that a byte uses.
-fn used_set(sets: Sets, shift: SingleShift, byte: u8) -> CharSet
+pub fn used_set(sets: Sets, shift: SingleShift, byte: u8) -> CharSet
     ensures { λ r. ⌜ r ≡ cond (ltb byte 0x80) (leftSet sets shift) (rightSet sets) ⌝ }
 {
     if byte < 0x80 {
@@ -86,14 +88,14 @@ fn used_set(sets: Sets, shift: SingleShift, byte: u8) -> CharSet
 }
 
 // In a 94-sign set 7F, A0 and FF are ignored.
-fn skipped(set: CharSet, byte: u8) -> bool
+pub fn skipped(set: CharSet, byte: u8) -> bool
     ensures { λ r. ⌜ r ≡ printing.skipped set byte ⌝ }
 {
     !has_96(set) & (((byte == 0x7F) | (byte == 0xA0)) | (byte == 0xFF))
 }
 
 // In a 94-sign set 20 is code 20 of set ASCII.
-fn shown_set(set: CharSet, byte: u8) -> CharSet
+pub fn shown_set(set: CharSet, byte: u8) -> CharSet
     ensures { λ r. ⌜ r ≡ printing.shownSet set byte ⌝ }
 {
     if !has_96(set) & (byte == 0x20) {
@@ -138,6 +140,35 @@ fn put_edit(insert: bool, cursor: Cursor, word: u16) -> Edit
         };
     }
     Edit::Put { row, column, word }
+}
+
+// ---- the printing rule by its parts, with no core to copy
+
+// Where the cursor goes, and the edits.
+pub struct Stroke {
+    pub cursor: Cursor,
+    pub first: Edit,
+    pub second: Edit,
+}
+
+pub fn strike(cursor: Cursor, margins: Margins, rows: u8, modes: Modes, word: u16) -> Stroke
+    requires { ⌜ (1 ≤ cursor .row) × (cursor .row ≤ rows) × (1 ≤ cursor .column) × (1 ≤ margins .top) ⌝ }
+    ensures { λ r. ⌜ r ≡ stroke cursor margins rows modes word ⌝ }
+{
+    if cursor.wrap {
+        let start = cursor.to_column(1);
+        let next = start.index(margins.bottom, rows);
+        return Stroke {
+            cursor: next.advance(80, modes.autowrap),
+            first: index_edit(margins, start),
+            second: put_edit(modes.insert, next, word),
+        };
+    }
+    Stroke {
+        cursor: cursor.advance(80, modes.autowrap),
+        first: put_edit(modes.insert, cursor, word),
+        second: Edit::Keep,
+    }
 }
 
 // ---- the printing rule
