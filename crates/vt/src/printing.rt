@@ -7,7 +7,6 @@ use crate::core::Decision;
 use crate::core::Margins;
 use crate::core::Modes;
 use crate::cursor::Cursor;
-use crate::effects::only;
 use crate::effects::quiet;
 use crate::effects::without_shift;
 use cells::Cell;
@@ -173,43 +172,23 @@ pub fn strike(cursor: Cursor, margins: Margins, rows: u8, modes: Modes, word: u1
 
 // ---- the printing rule
 
-fn put_here(mut core: Core, word: u16) -> Decision
+pub fn put(mut core: Core, word: u16) -> Decision
     requires { ⌜ Bounds core ⌝ }
-    ensures { λ r. ⌜ r ≡ printing.putHere core word ⌝ }
-{
-    let cursor = core.cursor;
-    let edit = put_edit(core.modes.insert, cursor, word);
-    core.cursor = cursor.advance(80, core.modes.autowrap);
-    only(core, edit)
-}
-
-// With wrap due, column 1 and IND, a step of its own.
-fn wrap_and_put(mut core: Core, word: u16) -> Decision
-    requires { ⌜ Bounds core ⌝ }
-    ensures { λ r. ⌜ r ≡ printing.wrapAndPut core word ⌝ }
+    ensures { λ r. ⌜ r ≡ printing.put core word ⌝ }
 {
     let cursor = core.cursor;
     let margins = core.margins;
-    let start = cursor.to_column(1);
-    let next = start.index(margins.bottom, core.rows);
-    let first = index_edit(margins, start);
-    let second = put_edit(core.modes.insert, next, word);
-    core.cursor = next.advance(80, core.modes.autowrap);
+    let modes = core.modes;
+    let struck = strike(cursor, margins, core.rows, modes, word);
+    let next = struck.cursor;
+    let first = struck.first;
+    let second = struck.second;
+    core.cursor = next;
     Decision {
         core,
         first,
         second,
     }
-}
-
-pub fn put(core: Core, word: u16) -> Decision
-    requires { ⌜ Bounds core ⌝ }
-    ensures { λ r. ⌜ r ≡ printing.put core word ⌝ }
-{
-    if core.cursor.wrap {
-        return wrap_and_put(core, word);
-    }
-    put_here(core, word)
 }
 
 pub fn print(core: Core, byte: u8) -> Decision
