@@ -16,4 +16,5 @@ pub mod ParamLaws
 pub mod PlainByte
 pub mod RuleLaws
 pub mod SendLaws
+pub mod StrokeLaws
 pub mod TabLaws

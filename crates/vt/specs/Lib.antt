@@ -8,6 +8,7 @@ pub mod Whole
 pub mod Bounds
 pub mod Effects
 pub mod Printing
+pub mod Strokes
 pub mod Controls
 pub mod Escapes
 pub mod Sequences

@@ -5,8 +5,8 @@ use crate::charsets::has_96;
 use crate::core::Core;
 use crate::core::Decision;
 use crate::core::Margins;
+use crate::core::Modes;
 use crate::cursor::Cursor;
-use crate::effects::only;
 use crate::effects::quiet;
 use crate::effects::without_shift;
 use cells::Cell;
@@ -21,6 +21,7 @@ ghost use Rattle.cells.specs.declared.Edit.the-variants.{Keep, Put, InsertCells
 ghost use Rattle.cells.specs.Cells.{setNumber, bit, renditionBits, packed};
 ghost use Rattle.vt.specs.Bounds.{Bounds};
 ghost use Rattle.vt.specs.Charsets.{leftSet, rightSet};
+ghost use Rattle.vt.specs.Strokes.{stroke};
 ghost use Rattle.vt.specs.Printing as printing;
 
 // ---- the cell
@@ -51,7 +52,7 @@ fn rendition_bits(rendition: Rendition) -> u16
         + 8 * bit_of(rendition.reverse)
 }
 
-fn pack(cell: Cell) -> u16
+pub fn pack(cell: Cell) -> u16
     ensures { λ r. ⌜ r ≡ packed cell ⌝ }
 {
     let set = cell.set;
@@ -76,7 +77,7 @@ fn cell_word(core: Core, code: u8, set: CharSet) -> u16
 }
 
 // The set that a byte uses.
-fn used_set(sets: Sets, shift: SingleShift, byte: u8) -> CharSet
+pub fn used_set(sets: Sets, shift: SingleShift, byte: u8) -> CharSet
     ensures { λ r. ⌜ r ≡ cond (ltb byte 0x80) (leftSet sets shift) (rightSet sets) ⌝ }
 {
     if byte < 0x80 {
@@ -86,14 +87,14 @@ fn used_set(sets: Sets, shift: SingleShift, byte: u8) -> CharSet
 }
 
 // In a 94-sign set 7F, A0 and FF are ignored.
-fn skipped(set: CharSet, byte: u8) -> bool
+pub fn skipped(set: CharSet, byte: u8) -> bool
     ensures { λ r. ⌜ r ≡ printing.skipped set byte ⌝ }
 {
     !has_96(set) & (((byte == 0x7F) | (byte == 0xA0)) | (byte == 0xFF))
 }
 
 // In a 94-sign set 20 is code 20 of set ASCII.
-fn shown_set(set: CharSet, byte: u8) -> CharSet
+pub fn shown_set(set: CharSet, byte: u8) -> CharSet
     ensures { λ r. ⌜ r ≡ printing.shownSet set byte ⌝ }
 {
     if !has_96(set) & (byte == 0x20) {
@@ -140,45 +141,54 @@ fn put_edit(insert: bool, cursor: Cursor, word: u16) -> Edit
     Edit::Put { row, column, word }
 }
 
-// ---- the printing rule
+// ---- the printing rule by its parts, with no core to copy
 
-fn put_here(mut core: Core, word: u16) -> Decision
-    requires { ⌜ Bounds core ⌝ }
-    ensures { λ r. ⌜ r ≡ printing.putHere core word ⌝ }
-{
-    let cursor = core.cursor;
-    let edit = put_edit(core.modes.insert, cursor, word);
-    core.cursor = cursor.advance(80, core.modes.autowrap);
-    only(core, edit)
+// Where the cursor goes, and the edits.
+pub struct Stroke {
+    pub cursor: Cursor,
+    pub first: Edit,
+    pub second: Edit,
 }
 
-// With wrap due, column 1 and IND, a step of its own.
-fn wrap_and_put(mut core: Core, word: u16) -> Decision
+pub fn strike(cursor: Cursor, margins: Margins, rows: u8, modes: Modes, word: u16) -> Stroke
+    requires { ⌜ (1 ≤ cursor .row) × (cursor .row ≤ rows) × (1 ≤ cursor .column) × (1 ≤ margins .top) ⌝ }
+    ensures { λ r. ⌜ r ≡ stroke cursor margins rows modes word ⌝ }
+{
+    if cursor.wrap {
+        let start = cursor.to_column(1);
+        let next = start.index(margins.bottom, rows);
+        return Stroke {
+            cursor: next.advance(80, modes.autowrap),
+            first: index_edit(margins, start),
+            second: put_edit(modes.insert, next, word),
+        };
+    }
+    Stroke {
+        cursor: cursor.advance(80, modes.autowrap),
+        first: put_edit(modes.insert, cursor, word),
+        second: Edit::Keep,
+    }
+}
+
+// ---- the printing rule
+
+pub fn put(mut core: Core, word: u16) -> Decision
     requires { ⌜ Bounds core ⌝ }
-    ensures { λ r. ⌜ r ≡ printing.wrapAndPut core word ⌝ }
+    ensures { λ r. ⌜ r ≡ printing.put core word ⌝ }
 {
     let cursor = core.cursor;
     let margins = core.margins;
-    let start = cursor.to_column(1);
-    let next = start.index(margins.bottom, core.rows);
-    let first = index_edit(margins, start);
-    let second = put_edit(core.modes.insert, next, word);
-    core.cursor = next.advance(80, core.modes.autowrap);
+    let modes = core.modes;
+    let struck = strike(cursor, margins, core.rows, modes, word);
+    let next = struck.cursor;
+    let first = struck.first;
+    let second = struck.second;
+    core.cursor = next;
     Decision {
         core,
         first,
         second,
     }
-}
-
-pub fn put(core: Core, word: u16) -> Decision
-    requires { ⌜ Bounds core ⌝ }
-    ensures { λ r. ⌜ r ≡ printing.put core word ⌝ }
-{
-    if core.cursor.wrap {
-        return wrap_and_put(core, word);
-    }
-    put_here(core, word)
 }
 
 pub fn print(core: Core, byte: u8) -> Decision
