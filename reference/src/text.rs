@@ -15,10 +15,11 @@ fn code_point(cell: Cell) -> u32 {
     let code = cell.code as u32;
     match (cell.set, code) {
         (_, 0x1A) => 0x2426,
+        // Control codes, which nothing prints: shown as "?", so that a row stays one line.
+        (Set::Ascii | Set::SpecialGraphics, 0x00..=0x1F | 0x7F) => UNKNOWN,
         (Set::Ascii, _) => code,
-        (Set::SpecialGraphics, 0x00..=0x5E) => code,
+        (Set::SpecialGraphics, 0x20..=0x5E) => code,
         (Set::SpecialGraphics, 0x5F..=0x7E) => LINE_DRAWING[code as usize - 0x5F],
-        // Nothing is said of 7F, and nothing prints it.
         (Set::SpecialGraphics, _) => UNKNOWN,
         (Set::Latin1, _) => 0x80 + code,
         (Set::Supplemental, _) => UNKNOWN,

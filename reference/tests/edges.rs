@@ -1327,7 +1327,7 @@ fn page_as_text() {
     let shown = String::from_utf8(text(&row)).unwrap();
     assert_eq!(
         shown,
-        "\u{0}\u{1F}\u{7F}\u{2426}\u{2426}\u{0}???\u{2426}\u{80}\u{FF}\u{2426}A\n"
+        "???\u{2426}\u{2426}????\u{2426}\u{80}\u{FF}\u{2426}A\n"
     );
     assert_eq!(text(&[]), b"");
 }

@@ -77,10 +77,7 @@ fn any_word_is_accepted() {
         for piece in stream(seed, 4_000).chunks(50) {
             c.more(piece);
         }
-        // A code is itself, so a found 0A (ASCII or Special Graphics) is one too.
-        let found = c.page.iter().filter(|&&word| word & 0x17F == 0x0A).count();
-        let closed = text(&c.page).iter().filter(|&&b| b == b'\n').count();
-        assert_eq!(closed, 24 + found);
+        assert_eq!(text(&c.page).iter().filter(|&&b| b == b'\n').count(), 24);
     }
 }
 
