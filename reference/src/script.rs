@@ -403,7 +403,7 @@ mod tests {
             "{}{}{}\n",
             "\n".repeat(23),
             " ".repeat(79),
-            format!("\u{C1}\n\u{CD}{}", "\0".repeat(79))
+            format!("\u{C1}\n\u{CD}{}", "?".repeat(79))
         );
         expected.push(b'T');
         expected.extend((lines.len() as u16).to_le_bytes());
