@@ -9,7 +9,7 @@ use native.Mathlib.Omega.{arith}
 use lib.Dec.{eqb, ltb}
 use lib.Pow.{pow-pos}
 use lib.ListN.{length, getD, take, drop, length-append}
-use lib.Seq.{sets, sets-eq, length-sets, drop-at}
+use lib.Seq.{sets, sets-eq, length-sets, take-at, drop-at}
 use borrow.Author.Tests.{le-ltb, ltb-true, ltb-false, eqb-true, eqb-false, eq-eqb, ne-eqb}
 use Rattle.cells.proofs.EditLaws.{every-edit}
 use Rattle.vt.specs.declared.core.Core.{Core}
@@ -172,10 +172,14 @@ refused-feed-leaves s p i o h =
     let l = fed-left s p i o h in
     record { read = l .read; replied = l .replied; state = l .state; page = l .page; reply = l .reply }
 
+-- the bytes at the front of the buffer are those that were sent
+pub front : (out o : List ℕ) → length out ≤ length o → take (length out) (sets o 0 out) ≡ out
+front out o fits = ap (take (length out)) (sets-eq out o 0 (omega arith)) ∙ take-at out (drop (0 + length out) o) (length out) refl
+
 pub feed-does : FeedDoes
 feed-does s p i o h =
     let t : Taken s p = fed-taken s p i o h in
-    rw (fed-run s p i o (t .whole) (t .size)) (record { state = refl; page = refl })
+    rw (fed-run s p i o (t .whole) (t .size)) (record { state = refl; page = refl; bytes = front (sent (s .core) (take (readCount s i o) i)) o (sent-fits (length o) (s .core) i) })
 
 rest-run : (s : State) (p i o : List ℕ) (a : Answer) → RestKept o (feedFirst a (readCount s i o) s p i o)
 rest-run s p i o a =

@@ -5,8 +5,8 @@ use mathlib.Core.List.{List, [], _∷_, _++_}
 use Prim.Native.Nat.{ℕ, _+_, _≤_, _<_}
 use native.Mathlib.Omega.{arith}
 use lib.Dec.{ltb}
-use lib.ListN.{length, take, drop}
-use lib.Seq.{sets, sets-eq, take-at, take-all}
+use lib.ListN.{length, take}
+use lib.Seq.{take-all}
 use borrow.Author.Tests.{le-ltb}
 use Rattle.vt.specs.declared.core.Core.{Core}
 use Rattle.terminal.specs.declared.State.{State}
@@ -18,13 +18,9 @@ use Rattle.terminal.specs.Feed.{Feed, readCount, fitting, screen, feedFirst, fe
 use Rattle.terminal.proofs.StepLaws.{ran-append, ran-core, sent-append, reads-all}
 use Rattle.terminal.proofs.CallLaws.{fed-run}
 use Rattle.demands.specs.Statements.{Sized, stateOf, Part, sentBy, Several, several, AllDone, inputOf, SameAtOnce, Demand2}
-use Rattle.demands.proofs.Demand1.{feed-is-exact, reply-rest-kept}
+use Rattle.demands.proofs.Demand1.{feed-is-exact, reply-rest-kept, front}
 
 -- ---- one call that is done has read all its input
-
--- the bytes at the front of the buffer are those that were sent
-pub front : (out o : List ℕ) → length out ≤ length o → take (length out) (sets o 0 out) ≡ out
-front out o fits = ap (take (length out)) (sets-eq out o 0 (omega arith)) ∙ take-at out (drop (0 + length out) o) (length out) refl
 
 record ReadAll (s : State) (p i : List ℕ) (f : Feed) : Type 0 where
   page : f .page ≡ ran (screen s p) i .page

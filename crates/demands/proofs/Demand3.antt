@@ -41,8 +41,7 @@ use Rattle.demands.specs.Model.{Model, Call, feeding, asking, reading, T
 use Rattle.demands.specs.World as W
 use Rattle.demands.specs.World.{World, Item, Lent, hers, other, patched, Proper, Given}
 use Rattle.demands.specs.Statements.{Agrees, Demand3}
-use Rattle.demands.proofs.Demand1.{start-is-exact, read-is-exact}
-use Rattle.demands.proofs.Demand2.{front}
+use Rattle.demands.proofs.Demand1.{start-is-exact, read-is-exact, front}
 
 -- ---- the world that belongs to a model
 

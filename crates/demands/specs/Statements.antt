@@ -18,7 +18,7 @@ use Rattle.terminal.specs.declared.State.{State}
 use Rattle.terminal.specs.declared.Answer.{Answer}
 use Rattle.terminal.specs.declared.Answer.the-variants.{Done}
 use Rattle.terminal.specs.Answers.{number, refusal}
-use Rattle.terminal.specs.Steps.{Screen, stepped, ran}
+use Rattle.terminal.specs.Steps.{Screen, stepped, ran, sent}
 use Rattle.terminal.specs.Whole.{wholeState}
 use Rattle.terminal.specs.Start.{fresh, blankPage, started}
 use Rattle.terminal.specs.Feed.{Feed, screen, fed}
@@ -34,6 +34,10 @@ Sized s p = length p ≡ 80 * s .core .rows
 -- the state of a screen
 abbrev pub stateOf : Screen → State
 stateOf d = record { core = d .core; changed = d .changed }
+
+-- the bytes that a feeding sent
+abbrev pub sentBy : Feed → List ℕ
+sentBy f = take (f .result .replied) (f .reply)
 
 -- ==== S2. States stay whole.
 
@@ -94,10 +98,12 @@ pub record Untouched (s : State) (p o : List ℕ) (f : Feed) : Type 0 where
 abbrev pub FeedRefused : Type 0
 FeedRefused = (s : State) (p i o : List ℕ) → refusal (fed s p i o .result .answer) ≡ true → Untouched s p o (fed s p i o)
 
--- An unrefused one has done exactly the bytes that it says it read: what came before the byte that it stopped at, and nothing of that byte.
+-- An unrefused one has done exactly the bytes that it says it read, and sent their replies: what came before the byte that it stopped at, and
+-- nothing of that byte.
 pub record DoneUpTo (s : State) (p i : List ℕ) (f : Feed) : Type 0 where
   pub state : f .result .state ≡ stateOf (ran (screen s p) (take (f .result .read) i))
   pub page : f .page ≡ ran (screen s p) (take (f .result .read) i) .page
+  pub bytes : sentBy f ≡ sent (s .core) (take (f .result .read) i)
 
 abbrev pub FeedDoes : Type 0
 FeedDoes = (s : State) (p i o : List ℕ) → refusal (fed s p i o .result .answer) ≡ false → DoneUpTo s p i (fed s p i o)
@@ -154,10 +160,6 @@ ReadExact = (s : State) (p : List ℕ) (r c : ℕ) → ReadAnswers s p r c
 pub record Part : Type 0 where
   pub input : List ℕ
   pub reply : List ℕ
-
--- The bytes that a feeding sent.
-abbrev pub sentBy : Feed → List ℕ
-sentBy f = take (f .result .replied) (f .reply)
 
 -- Calls one after the other, each given what the one before it left.
 pub record Several : Type 0 where
