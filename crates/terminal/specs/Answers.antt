@@ -4,7 +4,7 @@ use Prim.Native.Nat.{ℕ}
 use Rattle.terminal.specs.declared.Answer.{Answer}
 use Rattle.terminal.specs.declared.Answer.the-variants.{Done, Broken, WrongSize, NoRoom, OffPage}
 
--- document 01's numbers
+-- document 01's numbers; a start answers `Broken` for another R than 24, 36 and 48
 abbrev pub number : Answer → ℕ
 number Done = 0
 number Broken = 1

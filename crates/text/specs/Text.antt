@@ -23,7 +23,7 @@ lineDrawing =
     ∷ 0x23BA ∷ 0x23BB ∷ 0x2500 ∷ 0x23BC ∷ 0x23BD ∷ 0x251C ∷ 0x2524 ∷ 0x2534
     ∷ 0x252C ∷ 0x2502 ∷ 0x2264 ∷ 0x2265 ∷ 0x03C0 ∷ 0x2260 ∷ 0x00A3 ∷ 0x00B7 ∷ []
 
--- "?": Supplemental, and the control codes that no printing puts into a cell
+-- "?": Supplemental, and the control codes of ASCII and Special Graphics, which no printing puts into a cell
 abbrev pub unshown : ℕ
 unshown = 0x3F
 
@@ -46,7 +46,7 @@ sign w =
     let c = unpacked w in
     cond (eqb (c .code) 0x1A) 0x2426 (signIn (c .set) (c .code))
 
--- ---- UTF-8, of the code points below 10000
+-- ---- UTF-8, of the code points below U+10000
 
 abbrev pub utf8 : ℕ → List ℕ
 utf8 x =

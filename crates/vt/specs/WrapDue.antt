@@ -1,6 +1,7 @@
 -- Wrap due (document 01, "Functions", last item): the one policy, over the actions.
--- Kept by what is ignored or not listed, controls that do nothing, what only moves the parser, CAN, DECID, CSI g, h, l, m, n, c, " q, HTS,
--- sets and shifts, ESC 7 and ESC sp. Printing sets it, ESC 8 restores it. All others clear it, even where they change nothing else.
+-- Kept by what is ignored or not listed, controls that do nothing, L, M, @ and P outside T to B, what only moves the parser, CAN, DECID,
+-- CSI g, h, l, m, n, c, " q, HTS, sets and shifts, ESC 7 and ESC sp; but ?6 and turning autowrap off clear it. Printing sets it, ESC 8
+-- restores it. All others clear it, even where they change nothing else.
 use mathlib.Core.Bool.{Bool, true, false, cond, _&&_, _||_}
 use mathlib.Core.List.{List, [], _∷_}
 use Prim.Native.Nat.{ℕ}

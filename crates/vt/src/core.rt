@@ -45,7 +45,8 @@ pub struct Core {
     pub parser: Parser,
 }
 
-// What a byte does: the next core and at most two edits. One edit is one step of document 01.
+// What a byte does: the next core, and the edits of its one or two steps, `Keep` where a step leaves
+// the page.
 pub struct Decision {
     pub core: Core,
     pub first: Edit,

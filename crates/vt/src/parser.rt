@@ -12,7 +12,7 @@ ghost use lib.Dec.{eqb};
 ghost use Rattle.vt.specs.Params.{withDigit, withSeparator};
 ghost use Rattle.vt.specs.Parser as parsing;
 
-// Where the parser stands. The phase tells how many intermediates were collected.
+// Where the parser stands. The phase tells how many of the intermediates count.
 pub enum Phase {
     Ground,
     Escape,
