@@ -21,7 +21,7 @@ use Rattle.vt.specs.declared.core.Decision.{Decision}
 use Rattle.vt.specs.Whole.{Whole, sized}
 use Rattle.vt.specs.Fresh.{freshCore}
 use Rattle.vt.specs.Decide.{decided}
-use Rattle.vt.proofs.Tests.{or-left, or-right}
+use Rattle.parser.proofs.Tests.{or-left, or-right}
 use Rattle.vt.proofs.SoundParts.{Sound}
 use Rattle.vt.proofs.Sound.{decided-sound, fresh-whole}
 use Rattle.terminal.specs.declared.State.{State}

@@ -12,7 +12,7 @@ use Rattle.cells.specs.Sets.{changed}
 use Rattle.cells.specs.Edits.{applied, target, Within}
 use Rattle.vt.specs.declared.core.Core.{Core}
 use Rattle.vt.specs.Whole.{sized}
-use Rattle.vt.specs.Replies.{longestReply}
+use Rattle.device.specs.ReplyBytes.{longestReply}
 use Rattle.vt.specs.Decide.{sends}
 use Rattle.terminal.specs.declared.State.{State}
 use Rattle.terminal.specs.declared.Answer.{Answer}

@@ -7,8 +7,8 @@ use lib.Dec.{eqb, ltb}
 use lib.ListN.{length}
 use borrow.Author.Tests.{eq-eqb, ne-eqb, eqb-true, eqb-false, ltb-true, lt-ltb}
 use Rattle.vt.specs.Whole.{wholeCore}
-use Rattle.vt.specs.Parser.{between}
-use Rattle.vt.proofs.Tests.{and-left, and-right, and-both, between-low, between-high}
+use Rattle.parser.specs.Parser.{between}
+use Rattle.parser.proofs.Tests.{and-left, and-right, and-both, between-low, between-high}
 use Rattle.vt.proofs.Wholeness.{facts, tested}
 use Rattle.terminal.specs.declared.State.{State}
 use Rattle.terminal.specs.declared.Answer.{Answer}

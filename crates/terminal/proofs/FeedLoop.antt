@@ -20,8 +20,8 @@ use Rattle.vt.specs.declared.core.Core.{Core}
 use Rattle.vt.specs.declared.core.Decision.{Decision}
 use Rattle.vt.specs.Whole.{Whole}
 use Rattle.vt.specs.Decide.{decided, sends}
-use Rattle.vt.specs.Replies.{Sent}
-use Rattle.vt.proofs.SendLaws.{sent-none, sent-more}
+use Rattle.device.specs.ReplyBytes.{Sent}
+use Rattle.device.proofs.SendLaws.{sent-none, sent-more}
 use Rattle.vt.proofs.SoundParts.{Sound}
 use Rattle.vt.proofs.Sound.{decided-sound}
 use Rattle.terminal.specs.declared.State.{State}

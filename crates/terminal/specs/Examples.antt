@@ -11,9 +11,9 @@ use Rattle.cells.specs.Cells.{packed, unpacked, spaced, selectivelyErased}
 use Rattle.cells.specs.Rows.{joined}
 use Rattle.cells.specs.Sets.{bitsOf, added, sizeOf}
 use Rattle.cells.specs.Edits.{applied}
-use Rattle.vt.specs.Params.{withDigit, withSeparator}
-use Rattle.vt.specs.Parser.{transition, decode}
-use Rattle.vt.specs.Tabs.{withTab, withoutTab, nextAmong}
+use Rattle.parser.specs.Params.{withDigit, withSeparator}
+use Rattle.parser.specs.Parser.{transition, decode}
+use Rattle.device.specs.Tabs.{withTab, withoutTab, nextAmong}
 use Rattle.vt.specs.Fresh.{freshCore}
 use Rattle.vt.specs.Whole.{wholeCore}
 use Rattle.vt.specs.Printing.{put, printed, substituted}
@@ -21,7 +21,8 @@ use Rattle.vt.specs.Controls.{controlled, c1Controlled}
 use Rattle.vt.specs.Escapes.{escaped}
 use Rattle.vt.specs.Sequences.{rendered, softReset, sequenced}
 use Rattle.vt.specs.WrapDue.{clearsWrap}
-use Rattle.vt.specs.Replies.{replyTo, replyBytes}
+use Rattle.vt.specs.Replies.{replyTo}
+use Rattle.device.specs.ReplyBytes.{replyBytes}
 use Rattle.vt.specs.Decide.{executed, decided, sends}
 use Rattle.terminal.specs.Steps.{stepped, ran, sent, readable}
 use Rattle.terminal.specs.Whole.{wholeState}

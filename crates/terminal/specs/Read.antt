@@ -4,7 +4,7 @@ use mathlib.Core.List.{List}
 use Prim.Native.Nat.{ℕ, _+_, _-_, _*_}
 use lib.ListN.{getD}
 use Rattle.cells.specs.Cells.{blank}
-use Rattle.vt.specs.Parser.{between}
+use Rattle.parser.specs.Parser.{between}
 use Rattle.terminal.specs.declared.State.{State}
 use Rattle.terminal.specs.declared.CellRead.{CellRead}
 use Rattle.terminal.specs.declared.Answer.{Answer}

@@ -1,7 +1,7 @@
 -- A whole core is within the bounds that the code needs, and so is one whose parser alone is another.
 use Prim.Native.Nat.{_≤_, _<_}
 use native.Mathlib.Omega.{arith}
-use Rattle.vt.specs.declared.parser.Parser.{Parser}
+use Rattle.parser.specs.declared.parser.Parser.{Parser}
 use Rattle.vt.specs.declared.core.Core.{Core}
 use Rattle.vt.specs.Bounds.{Bounds}
 use Rattle.vt.specs.Effects.{withParser}

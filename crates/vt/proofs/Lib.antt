@@ -1,4 +1,3 @@
-pub mod Tests
 pub mod Wholeness
 pub mod SoundParts
 pub mod SoundMoves
@@ -10,11 +9,7 @@ pub mod SoundParser
 pub mod Sound
 pub mod ReplyLength
 pub mod BoundsLaws
+pub mod ActionLaws
 pub mod CellLaws
-pub mod Choice
-pub mod ParamLaws
 pub mod PlainByte
-pub mod RuleLaws
-pub mod SendLaws
 pub mod StrokeLaws
-pub mod TabLaws

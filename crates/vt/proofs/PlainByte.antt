@@ -5,22 +5,22 @@ use Prim.Native.Nat.{ℕ}
 use native.Mathlib.Omega.{arith}
 use lib.Dec.{leb}
 use borrow.Author.Tests.{leb-true, not-true, le-ltb, ne-eqb}
-use Rattle.vt.specs.declared.parser.Phase.{Phase}
-use Rattle.vt.specs.declared.parser.Phase.the-variants.{Ground}
-use Rattle.vt.specs.declared.parser.Op.the-variants.{Print}
-use Rattle.vt.specs.declared.parser.Transition.{Transition}
-use Rattle.vt.specs.declared.parser.Parser.{Parser}
-use Rattle.vt.specs.declared.parser.Action.the-variants.{Character}
-use Rattle.vt.specs.declared.parser.Decoded.{Decoded}
+use Rattle.parser.specs.declared.parser.Phase.{Phase}
+use Rattle.parser.specs.declared.parser.Phase.the-variants.{Ground}
+use Rattle.parser.specs.declared.parser.Op.the-variants.{Print}
+use Rattle.parser.specs.declared.parser.Transition.{Transition}
+use Rattle.parser.specs.declared.parser.Parser.{Parser}
+use Rattle.parser.specs.declared.parser.Action.the-variants.{Character}
+use Rattle.parser.specs.declared.parser.Decoded.{Decoded}
 use Rattle.vt.specs.declared.core.Core.{Core}
-use Rattle.vt.specs.Parser.{between, to, transition, inPhase, kept, asked, decode}
+use Rattle.parser.specs.Parser.{between, to, transition, inPhase, kept, asked, decode}
 use Rattle.vt.specs.Printing.{printed}
 use Rattle.vt.specs.WrapDue.{clearsWrap}
 use Rattle.vt.specs.Effects.{withParser}
-use Rattle.vt.specs.declared.reply.Reply.the-variants.{Silent}
+use Rattle.device.specs.declared.sending.Reply.the-variants.{Silent}
 use Rattle.vt.specs.Replies.{replyTo}
 use Rattle.vt.specs.Decide.{executed, decided}
-use Rattle.vt.proofs.Tests.{and-left, and-right}
+use Rattle.parser.proofs.Tests.{and-left, and-right}
 
 -- 20 to 7F and A0 to FF
 abbrev pub graphic : ℕ → Bool

@@ -2,10 +2,11 @@
 use Prim.Native.Nat.{ℕ, _≤_}
 use lib.ListN.{length}
 use Rattle.vt.specs.declared.core.Core.{Core}
-use Rattle.vt.specs.Parser.{decode}
-use Rattle.vt.specs.Replies.{replyTo, longestReply}
+use Rattle.parser.specs.Parser.{decode}
+use Rattle.vt.specs.Replies.{replyTo}
+use Rattle.device.specs.ReplyBytes.{longestReply}
 use Rattle.vt.specs.Decide.{sends}
-use Rattle.vt.proofs.SendLaws.{reply-short}
+use Rattle.device.proofs.SendLaws.{reply-short}
 
 pub sends-short : (c : Core) (b : ℕ) → length (sends c b) ≤ longestReply
 unfolding sends

@@ -2,12 +2,12 @@
 use mathlib.Core.Path.{_≡_, refl, sym}
 use mathlib.Core.Bool.{Bool, true, false}
 use Prim.Native.Nat.{ℕ}
-use Rattle.vt.specs.declared.parser.Action.{Action}
-use Rattle.vt.specs.declared.parser.Action.the-variants.{Nothing, Character, Substitute, Control, C1Control, EscapeSequence, ControlSequence}
+use Rattle.parser.specs.declared.parser.Action.{Action}
+use Rattle.parser.specs.declared.parser.Action.the-variants.{Nothing, Character, Substitute, Control, C1Control, EscapeSequence, ControlSequence}
 use Rattle.vt.specs.declared.core.Core.{Core}
 use Rattle.vt.specs.Whole.{sized, Whole}
 use Rattle.vt.specs.Fresh.{freshCore}
-use Rattle.vt.specs.Parser.{decode}
+use Rattle.parser.specs.Parser.{decode}
 use Rattle.vt.specs.WrapDue.{clearsWrap, settled}
 use Rattle.vt.specs.Effects.{withParser}
 use Rattle.vt.specs.Decide.{effect, executed, decided}

@@ -6,22 +6,22 @@ use native.Mathlib.Omega.{arith}
 use lib.Dec.{eqb}
 use Rattle.cells.specs.declared.Edit.{Edit}
 use Rattle.cells.specs.Edits.{Within}
-use Rattle.vt.specs.declared.charsets.Register.{Register}
-use Rattle.vt.specs.declared.charsets.Register.the-variants.{G0, G1}
-use Rattle.vt.specs.declared.charsets.Sets.{Sets}
-use Rattle.vt.specs.declared.charsets.SingleShift.{SingleShift}
-use Rattle.vt.specs.declared.charsets.SingleShift.the-variants.{Ss2, Ss3}
-use Rattle.vt.specs.declared.tabs.Tabs.{Tabs}
-use Rattle.vt.specs.declared.cursor.Cursor.{Cursor}
+use Rattle.device.specs.declared.charsets.Register.{Register}
+use Rattle.device.specs.declared.charsets.Register.the-variants.{G0, G1}
+use Rattle.device.specs.declared.charsets.Sets.{Sets}
+use Rattle.device.specs.declared.charsets.SingleShift.{SingleShift}
+use Rattle.device.specs.declared.charsets.SingleShift.the-variants.{Ss2, Ss3}
+use Rattle.device.specs.declared.tabs.Tabs.{Tabs}
+use Rattle.device.specs.declared.cursor.Cursor.{Cursor}
 use Rattle.vt.specs.declared.core.Core.{Core}
 use Rattle.vt.specs.declared.core.Decision.{Decision}
-use Rattle.vt.specs.Charsets.{withGl}
-use Rattle.vt.specs.Tabs.{withTab}
-use Rattle.vt.specs.Cursor.{left, tab, toColumn, index, reverseIndex}
+use Rattle.device.specs.Charsets.{withGl}
+use Rattle.device.specs.Tabs.{withTab}
+use Rattle.device.specs.Cursor.{left, tab, toColumn, index, reverseIndex}
 use Rattle.vt.specs.Printing.{indexEdit}
 use Rattle.vt.specs.Controls.{indexFrom, indexed, nextLined, lineFed, reverseIndexEdit, reverseIndexed, backspaced, tabbed, returned, tabSet, controlled, c1Controlled}
 use Rattle.vt.specs.Effects.{withCursor, withTabs, withSets, withShift, only, quiet}
-use Rattle.vt.proofs.Tests.{either}
+use Rattle.parser.proofs.Tests.{either}
 use Rattle.vt.proofs.SoundParts.{OnPage, Scrolls, Parts, WrapOf, Good, good-only, good-quiet, no-wrap}
 use Rattle.vt.proofs.SoundMoves.{Fine, own, with-cursor, fine-start, fine-left, fine-index, fine-reverse-index, fine-tab}
 use Rattle.vt.proofs.SoundPrinting.{margins-fit, index-within}

@@ -8,19 +8,20 @@ use Rattle.cells.specs.declared.CharSet.the-variants.{Ascii, SpecialGraphics, S
 use Rattle.cells.specs.declared.Edit.the-variants.{Fill}
 use Rattle.cells.specs.Edits.{RunFits}
 use Rattle.cells.specs.Cells.{plainCell, packed, blank}
-use Rattle.vt.specs.declared.charsets.Register.{Register}
-use Rattle.vt.specs.declared.charsets.Register.the-variants.{G0, G1, G2, G3}
-use Rattle.vt.specs.declared.parser.Phase.the-variants.{Ground}
+use Rattle.device.specs.declared.charsets.Register.{Register}
+use Rattle.device.specs.declared.charsets.Register.the-variants.{G0, G1, G2, G3}
+use Rattle.parser.specs.declared.parser.Phase.the-variants.{Ground}
 use Rattle.vt.specs.declared.core.Core.{Core}
 use Rattle.vt.specs.declared.core.Decision.{Decision}
-use Rattle.vt.specs.Whole.{sized, WholeParser}
-use Rattle.vt.specs.Charsets.{designated, withGl, withGr}
-use Rattle.vt.specs.Parser.{cleared}
-use Rattle.vt.specs.Cursor.{place, restore}
+use Rattle.vt.specs.Whole.{sized}
+use Rattle.parser.specs.WholeParser.{WholeParser}
+use Rattle.device.specs.Charsets.{designated, withGl, withGr}
+use Rattle.parser.specs.Parser.{cleared}
+use Rattle.device.specs.Cursor.{place, restore}
 use Rattle.vt.specs.Fresh.{freshCore}
 use Rattle.vt.specs.Escapes.{saveCursor, restoreCursor, alignScreen, reset, withEightbit, designate94, designate96, plainEscape, spaceEscape, hashEscape, escaped}
 use Rattle.vt.specs.Effects.{withCursor, withMargins, withSaved, only, quiet}
-use Rattle.vt.proofs.Tests.{either, and-left, and-right}
+use Rattle.parser.proofs.Tests.{either, and-left, and-right}
 use Rattle.vt.proofs.Wholeness.{RowCount, row-count, facts}
 use Rattle.vt.proofs.SoundParts.{OnPage, Scrolls, OriginHeld, SavedHeld, Held, Parts, WrapHeld, WrapOf, Good, Sound, good-only, good-quiet, no-wrap}
 use Rattle.vt.proofs.SoundControls.{good-sets, good-same}

@@ -5,13 +5,13 @@ use Prim.Native.Nat.{ℕ, zero, suc, _+_, _-_, _≤_, _<_, min, max}
 use native.Mathlib.Omega.{arith}
 use lib.Dec.{eqb, leb, ltb}
 use borrow.Author.Tests.{eqb-true, eqb-false, leb-true, leb-false, ltb-true, ltb-false}
-use Rattle.vt.specs.declared.cursor.Cursor.{Cursor}
-use Rattle.vt.specs.declared.tabs.Tabs.{Tabs}
+use Rattle.device.specs.declared.cursor.Cursor.{Cursor}
+use Rattle.device.specs.declared.tabs.Tabs.{Tabs}
 use Rattle.vt.specs.declared.core.Core.{Core}
-use Rattle.vt.specs.Tabs.{isTab, nextAmong, nextTab}
-use Rattle.vt.specs.Cursor.{place, up, down, left, right, toColumn, tab, index, reverseIndex, advance, restore}
+use Rattle.device.specs.Tabs.{isTab, nextAmong, nextTab}
+use Rattle.device.specs.Cursor.{place, up, down, left, right, toColumn, tab, index, reverseIndex, advance, restore}
 use Rattle.vt.specs.Effects.{withCursor}
-use Rattle.vt.proofs.Tests.{either}
+use Rattle.parser.proofs.Tests.{either}
 use Rattle.vt.proofs.SoundParts.{OnPage, Scrolls, OriginHeld, Parts, WrapHeld, WrapOf, no-wrap}
 
 -- a cursor that a core may have, but for wrap due

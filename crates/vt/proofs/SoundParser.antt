@@ -8,17 +8,17 @@ use native.Mathlib.Omega.{arith}
 use lib.Dec.{eqb, leb, ltb}
 use lib.ListN.{getD, take, set}
 use borrow.Author.Tests.{leb-true, leb-false, le-leb, ltb-true, ltb-false, eqb-true, eqb-false}
-use Rattle.vt.specs.declared.params.Params.{Params}
-use Rattle.vt.specs.declared.parser.Phase.{Phase}
-use Rattle.vt.specs.declared.parser.Phase.the-variants.{Ground, Escape, EscapeOne, EscapeTwo, EscapeIgnore, CsiEntry, CsiParam, CsiOne, CsiTwo, CsiIgnore, StringText}
-use Rattle.vt.specs.declared.parser.Op.{Op}
-use Rattle.vt.specs.declared.parser.Op.the-variants.{Ignore, Execute}
-use Rattle.vt.specs.declared.parser.Transition.{Transition}
-use Rattle.vt.specs.declared.parser.Parser.{Parser}
-use Rattle.vt.specs.Params.{paramCount, paramList, withDigit, withSeparator}
-use Rattle.vt.specs.Parser.{between, intermediates, inPhase, marked, collected, gathered, cleared, kept, opensString, c1Rule, parameterRule, intermediateRule, sequenceRule, lowered, inSequence, phaseRule, transition, decode}
-use Rattle.vt.specs.Whole.{implies, allAtMost, WholeParser}
-use Rattle.vt.proofs.Tests.{either, and-left, and-right, and-both, in-between, between-low, between-high}
+use Rattle.parser.specs.declared.params.Params.{Params}
+use Rattle.parser.specs.declared.parser.Phase.{Phase}
+use Rattle.parser.specs.declared.parser.Phase.the-variants.{Ground, Escape, EscapeOne, EscapeTwo, EscapeIgnore, CsiEntry, CsiParam, CsiOne, CsiTwo, CsiIgnore, StringText}
+use Rattle.parser.specs.declared.parser.Op.{Op}
+use Rattle.parser.specs.declared.parser.Op.the-variants.{Ignore, Execute}
+use Rattle.parser.specs.declared.parser.Transition.{Transition}
+use Rattle.parser.specs.declared.parser.Parser.{Parser}
+use Rattle.parser.specs.Params.{paramCount, paramList, withDigit, withSeparator, allAtMost}
+use Rattle.parser.specs.Parser.{between, intermediates, inPhase, marked, collected, gathered, cleared, kept, opensString, c1Rule, parameterRule, intermediateRule, sequenceRule, lowered, inSequence, phaseRule, transition, decode}
+use Rattle.parser.specs.WholeParser.{implies, WholeParser}
+use Rattle.parser.proofs.Tests.{either, and-left, and-right, and-both, in-between, between-low, between-high}
 use Rattle.vt.proofs.SoundEscapes.{cleared-whole}
 
 -- ---- parameters

@@ -5,10 +5,11 @@ use Prim.Native.Nat.{ℕ, _+_, _-_, _≤_, _<_, min, max}
 use native.Mathlib.Omega.{arith}
 use Rattle.cells.specs.declared.Edit.{Edit}
 use Rattle.cells.specs.Edits.{Within}
-use Rattle.vt.specs.declared.parser.Parser.{Parser}
+use Rattle.parser.specs.declared.parser.Parser.{Parser}
 use Rattle.vt.specs.declared.core.Core.{Core}
 use Rattle.vt.specs.declared.core.Decision.{Decision}
-use Rattle.vt.specs.Whole.{sized, WholeParser, Whole}
+use Rattle.vt.specs.Whole.{sized, Whole}
+use Rattle.parser.specs.WholeParser.{WholeParser}
 use Rattle.vt.specs.WrapDue.{settled}
 use Rattle.vt.specs.Effects.{only, quiet}
 use Rattle.vt.proofs.Wholeness.{RowCount, row-count}

@@ -8,14 +8,14 @@ use Rattle.cells.specs.declared.CharSet.{CharSet}
 use Rattle.cells.specs.declared.CharSet.the-variants.{Ascii}
 use Rattle.cells.specs.declared.Edit.{Edit}
 use Rattle.cells.specs.Edits.{Within, RowsFit}
-use Rattle.vt.specs.declared.charsets.SingleShift.the-variants.{NoShift}
-use Rattle.vt.specs.declared.cursor.Cursor.{Cursor}
+use Rattle.device.specs.declared.charsets.SingleShift.the-variants.{NoShift}
+use Rattle.device.specs.declared.cursor.Cursor.{Cursor}
 use Rattle.vt.specs.declared.core.Core.{Core}
 use Rattle.vt.specs.declared.core.Decision.{Decision}
-use Rattle.vt.specs.Cursor.{toColumn, index, advance}
+use Rattle.device.specs.Cursor.{toColumn, index, advance}
 use Rattle.vt.specs.Printing.{usedSet, skipped, shownSet, cellWord, indexEdit, putEdit, advanced, lineStart, nextLine, wrapAndPut, putHere, put, putByte, printed, substituted}
 use Rattle.vt.specs.Effects.{withCursor, withShift}
-use Rattle.vt.proofs.Tests.{either}
+use Rattle.parser.proofs.Tests.{either}
 use Rattle.vt.proofs.SoundParts.{OnPage, Scrolls, Parts, WrapOf, Good, good-quiet}
 use Rattle.vt.proofs.SoundMoves.{Fine, own, with-cursor, fine-start, fine-index, fine-advance, advance-wrap}
 

@@ -10,18 +10,19 @@ use Rattle.cells.specs.declared.Edit.{Edit}
 use Rattle.cells.specs.declared.Edit.the-variants.{InsertCells, DeleteCells, ScrollUp, ScrollDown, Fill}
 use Rattle.cells.specs.Cells.{blank}
 use Rattle.cells.specs.Edits.{Within, RowsFit, CellsFit, RunFits}
-use Rattle.vt.specs.declared.params.Params.{Params}
+use Rattle.parser.specs.declared.params.Params.{Params}
 use Rattle.vt.specs.declared.core.Core.{Core}
 use Rattle.vt.specs.declared.core.Decision.{Decision}
-use Rattle.vt.specs.Params.{param, paramN, paramList}
-use Rattle.vt.specs.Tabs.{withoutTab, noTabs}
-use Rattle.vt.specs.Cursor.{place, up, down, left, right, toColumn, offset}
+use Rattle.parser.specs.Params.{param, paramN, paramList, member}
+use Rattle.device.specs.Tabs.{withoutTab, noTabs}
+use Rattle.device.specs.Cursor.{place, up, down, left, right, toColumn, offset}
 use Rattle.vt.specs.Escapes.{withOrigin}
 use Rattle.vt.specs.Fresh.{freshCore}
-use Rattle.vt.specs.Sequences.{cursorUp, cursorDown, cursorRight, cursorLeft, rowAt, cursorPosition, erased, toBlank, toSpace, inPage, inRow, rowStart, eraseCharacters, insideMargins, rowsBelow, cellsRight, insertLines, deleteLines, insertCharacters, deleteCharacters, folded, clearTabs, ansiMode, originMode, decMode, ansiModes, decModes, withInsert, withNewline, withAutowrap, withShown, rendered, selectRendition, selectProtection, askedMargins, marginsTaken, setMargins, softReset, plainSequence, markedSequence, isPlain, isMarked, isProtection, isSoftReset, sequenced}
-use Rattle.vt.specs.WrapDue.{member, plainClears, markedClears}
+use Rattle.vt.specs.Sequences.{cursorUp, cursorDown, cursorRight, cursorLeft, rowAt, cursorPosition, erased, toBlank, toSpace, inPage, inRow, rowStart, eraseCharacters, insideMargins, rowsBelow, cellsRight, insertLines, deleteLines, insertCharacters, deleteCharacters, folded, clearTabs, ansiMode, originMode, decMode, ansiModes, decModes, withInsert, withNewline, withAutowrap, withShown, rendered, selectRendition, selectProtection, askedMargins, marginsTaken, setMargins, softReset, plainSequence, markedSequence, sequenced}
+use Rattle.parser.specs.Families.{isPlain, isMarked, isProtection, isSoftReset}
+use Rattle.vt.specs.WrapDue.{plainClears, markedClears}
 use Rattle.vt.specs.Effects.{withCursor, withMargins, withModes, withRendition, withProtected, only, quiet}
-use Rattle.vt.proofs.Tests.{either, and-left, and-right, at-number, or-left, or-right}
+use Rattle.parser.proofs.Tests.{either, and-left, and-right, at-number, or-left, or-right}
 use Rattle.vt.proofs.SoundParts.{OnPage, Scrolls, OriginHeld, Held, Parts, WrapHeld, WrapOf, Good, good-only, good-quiet, no-wrap}
 use Rattle.vt.proofs.SoundMoves.{Fine, own, with-cursor, fine-start, fine-up, fine-down, fine-left, fine-right}
 use Rattle.vt.proofs.SoundControls.{good-moved, good-tabs, good-same}

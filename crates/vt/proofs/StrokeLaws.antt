@@ -5,7 +5,7 @@ use Prim.Native.Nat.{ℕ}
 use Rattle.vt.specs.declared.core.Core.{Core}
 use Rattle.vt.specs.declared.core.Decision.{Decision}
 use Rattle.vt.specs.declared.printing.Stroke.{Stroke}
-use Rattle.vt.specs.Cursor.{toColumn, index}
+use Rattle.device.specs.Cursor.{toColumn, index}
 use Rattle.vt.specs.Printing.{put}
 use Rattle.vt.specs.Strokes.{strokeHere, strokeOn, stroke, struck}
 

@@ -6,14 +6,15 @@ use Prim.Native.Nat.{ℕ, zero, suc, _≤_, _<_}
 use native.Mathlib.Omega.{arith}
 use lib.Dec.{eqb, leb, ltb}
 use borrow.Author.Tests.{leb-true, le-leb, ltb-true, lt-ltb, eqb-true, eq-eqb}
-use Rattle.vt.specs.declared.cursor.Cursor.{Cursor}
-use Rattle.vt.specs.declared.parser.Parser.{Parser}
+use Rattle.device.specs.declared.cursor.Cursor.{Cursor}
+use Rattle.parser.specs.declared.parser.Parser.{Parser}
 use Rattle.vt.specs.declared.core.Margins.{Margins}
 use Rattle.vt.specs.declared.core.Core.{Core}
-use Rattle.vt.specs.Params.{paramList}
-use Rattle.vt.specs.Parser.{between, intermediates}
-use Rattle.vt.specs.Whole.{sized, implies, all, allAtMost, coreTests, parserTests, wholeCore, WholeParser, Whole}
-use Rattle.vt.proofs.Tests.{and-left, and-right, and-both, or-cases, all-at, implied, implying, between-low, between-high, in-between}
+use Rattle.parser.specs.Params.{paramList, allAtMost}
+use Rattle.parser.specs.Parser.{between, intermediates}
+use Rattle.vt.specs.Whole.{sized, coreTests, wholeCore, Whole}
+use Rattle.parser.specs.WholeParser.{implies, all, parserTests, WholeParser}
+use Rattle.parser.proofs.Tests.{and-left, and-right, and-both, or-cases, all-at, implied, implying, between-low, between-high, in-between}
 
 pub record RowCount (r : ℕ) : Type 0 where
   pub low : 24 ≤ r

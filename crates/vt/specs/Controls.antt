@@ -4,14 +4,14 @@ use Prim.Native.Nat.{ℕ, _-_}
 use lib.Dec.{eqb}
 use Rattle.cells.specs.declared.Edit.{Edit}
 use Rattle.cells.specs.declared.Edit.the-variants.{Keep, ScrollDown}
-use Rattle.vt.specs.declared.charsets.Register.the-variants.{G0, G1}
-use Rattle.vt.specs.declared.charsets.SingleShift.the-variants.{Ss2, Ss3}
-use Rattle.vt.specs.declared.cursor.Cursor.{Cursor}
+use Rattle.device.specs.declared.charsets.Register.the-variants.{G0, G1}
+use Rattle.device.specs.declared.charsets.SingleShift.the-variants.{Ss2, Ss3}
+use Rattle.device.specs.declared.cursor.Cursor.{Cursor}
 use Rattle.vt.specs.declared.core.Core.{Core}
 use Rattle.vt.specs.declared.core.Decision.{Decision}
-use Rattle.vt.specs.Charsets.{withGl}
-use Rattle.vt.specs.Tabs.{withTab}
-use Rattle.vt.specs.Cursor.{left, tab, toColumn, index, reverseIndex}
+use Rattle.device.specs.Charsets.{withGl}
+use Rattle.device.specs.Tabs.{withTab}
+use Rattle.device.specs.Cursor.{left, tab, toColumn, index, reverseIndex}
 use Rattle.vt.specs.Printing.{indexEdit}
 use Rattle.vt.specs.Effects.{withCursor, withTabs, withSets, withShift, only, quiet}
 

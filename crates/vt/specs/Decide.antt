@@ -2,18 +2,19 @@
 use mathlib.Core.Bool.{Bool, true, false}
 use mathlib.Core.List.{List}
 use Prim.Native.Nat.{ℕ}
-use Rattle.vt.specs.declared.parser.Action.{Action}
-use Rattle.vt.specs.declared.parser.Action.the-variants.{Nothing, Character, Substitute, Control, C1Control, EscapeSequence, ControlSequence}
-use Rattle.vt.specs.declared.reply.Reply.{Reply}
+use Rattle.parser.specs.declared.parser.Action.{Action}
+use Rattle.parser.specs.declared.parser.Action.the-variants.{Nothing, Character, Substitute, Control, C1Control, EscapeSequence, ControlSequence}
+use Rattle.device.specs.declared.sending.Reply.{Reply}
 use Rattle.vt.specs.declared.core.Core.{Core}
 use Rattle.vt.specs.declared.core.Decision.{Decision}
-use Rattle.vt.specs.Parser.{decode}
+use Rattle.parser.specs.Parser.{decode}
 use Rattle.vt.specs.Printing.{printed, substituted}
 use Rattle.vt.specs.Controls.{controlled, c1Controlled}
 use Rattle.vt.specs.Escapes.{escaped}
 use Rattle.vt.specs.Sequences.{sequenced}
 use Rattle.vt.specs.WrapDue.{clearsWrap, settled}
-use Rattle.vt.specs.Replies.{replyTo, replyBytes}
+use Rattle.vt.specs.Replies.{replyTo}
+use Rattle.device.specs.ReplyBytes.{replyBytes}
 use Rattle.vt.specs.Effects.{withParser, quiet}
 
 -- what an action does, but for wrap due

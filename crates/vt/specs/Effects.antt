@@ -3,11 +3,11 @@ use mathlib.Core.Bool.{Bool}
 use Rattle.cells.specs.declared.Rendition.{Rendition}
 use Rattle.cells.specs.declared.Edit.{Edit}
 use Rattle.cells.specs.declared.Edit.the-variants.{Keep}
-use Rattle.vt.specs.declared.cursor.Cursor.{Cursor}
-use Rattle.vt.specs.declared.tabs.Tabs.{Tabs}
-use Rattle.vt.specs.declared.charsets.Sets.{Sets}
-use Rattle.vt.specs.declared.charsets.SingleShift.{SingleShift}
-use Rattle.vt.specs.declared.parser.Parser.{Parser}
+use Rattle.device.specs.declared.cursor.Cursor.{Cursor}
+use Rattle.device.specs.declared.tabs.Tabs.{Tabs}
+use Rattle.device.specs.declared.charsets.Sets.{Sets}
+use Rattle.device.specs.declared.charsets.SingleShift.{SingleShift}
+use Rattle.parser.specs.declared.parser.Parser.{Parser}
 use Rattle.vt.specs.declared.core.Margins.{Margins}
 use Rattle.vt.specs.declared.core.Modes.{Modes}
 use Rattle.vt.specs.declared.core.Saved.{Saved}

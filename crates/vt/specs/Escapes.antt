@@ -6,14 +6,14 @@ use Rattle.cells.specs.declared.CharSet.{CharSet}
 use Rattle.cells.specs.declared.CharSet.the-variants.{Ascii, SpecialGraphics, Supplemental, Latin1}
 use Rattle.cells.specs.declared.Edit.the-variants.{Fill}
 use Rattle.cells.specs.Cells.{plainCell, packed, blank}
-use Rattle.vt.specs.declared.charsets.Register.{Register}
-use Rattle.vt.specs.declared.charsets.Register.the-variants.{G0, G1, G2, G3}
+use Rattle.device.specs.declared.charsets.Register.{Register}
+use Rattle.device.specs.declared.charsets.Register.the-variants.{G0, G1, G2, G3}
 use Rattle.vt.specs.declared.core.Modes.{Modes}
 use Rattle.vt.specs.declared.core.Saved.{Saved}
 use Rattle.vt.specs.declared.core.Core.{Core}
 use Rattle.vt.specs.declared.core.Decision.{Decision}
-use Rattle.vt.specs.Charsets.{designated, withGl, withGr}
-use Rattle.vt.specs.Cursor.{place, restore}
+use Rattle.device.specs.Charsets.{designated, withGl, withGr}
+use Rattle.device.specs.Cursor.{place, restore}
 use Rattle.vt.specs.Fresh.{freshCore}
 use Rattle.vt.specs.Effects.{withCursor, withMargins, withModes, withRendition, withSets, withSaved, only, quiet}
 

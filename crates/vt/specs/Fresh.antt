@@ -2,15 +2,15 @@
 use mathlib.Core.Bool.{Bool, true, false}
 use Prim.Native.Nat.{ℕ}
 use Rattle.cells.specs.Cells.{plain}
-use Rattle.vt.specs.declared.charsets.SingleShift.the-variants.{NoShift}
-use Rattle.vt.specs.declared.parser.Phase.the-variants.{Ground}
+use Rattle.device.specs.declared.charsets.SingleShift.the-variants.{NoShift}
+use Rattle.parser.specs.declared.parser.Phase.the-variants.{Ground}
 use Rattle.vt.specs.declared.core.Modes.{Modes}
 use Rattle.vt.specs.declared.core.Saved.{Saved}
 use Rattle.vt.specs.declared.core.Core.{Core}
-use Rattle.vt.specs.Parser.{cleared}
-use Rattle.vt.specs.Tabs.{everyEighth}
-use Rattle.vt.specs.Charsets.{freshSets}
-use Rattle.vt.specs.Cursor.{place}
+use Rattle.parser.specs.Parser.{cleared}
+use Rattle.device.specs.Tabs.{everyEighth}
+use Rattle.device.specs.Charsets.{freshSets}
+use Rattle.device.specs.Cursor.{place}
 
 -- modes off but cursor shown
 abbrev pub freshModes : Modes

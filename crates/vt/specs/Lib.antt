@@ -1,8 +1,3 @@
-pub mod Params
-pub mod Parser
-pub mod Tabs
-pub mod Charsets
-pub mod Cursor
 pub mod Fresh
 pub mod Whole
 pub mod Bounds

@@ -7,12 +7,12 @@ use Rattle.cells.specs.declared.CharSet.the-variants.{Ascii}
 use Rattle.cells.specs.declared.Edit.{Edit}
 use Rattle.cells.specs.declared.Edit.the-variants.{Keep, Put, InsertCells, ScrollUp}
 use Rattle.cells.specs.Cells.{packed}
-use Rattle.vt.specs.declared.charsets.SingleShift.the-variants.{NoShift}
-use Rattle.vt.specs.declared.cursor.Cursor.{Cursor}
+use Rattle.device.specs.declared.charsets.SingleShift.the-variants.{NoShift}
+use Rattle.device.specs.declared.cursor.Cursor.{Cursor}
 use Rattle.vt.specs.declared.core.Core.{Core}
 use Rattle.vt.specs.declared.core.Decision.{Decision}
-use Rattle.vt.specs.Charsets.{has96, leftSet, rightSet}
-use Rattle.vt.specs.Cursor.{toColumn, index, advance}
+use Rattle.device.specs.Charsets.{has96, leftSet, rightSet}
+use Rattle.device.specs.Cursor.{toColumn, index, advance}
 use Rattle.vt.specs.Effects.{withCursor, withShift, only, quiet}
 
 -- ---- the cell

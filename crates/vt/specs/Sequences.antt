@@ -7,14 +7,15 @@ use Rattle.cells.specs.declared.Rendition.{Rendition}
 use Rattle.cells.specs.declared.Edit.{Edit}
 use Rattle.cells.specs.declared.Edit.the-variants.{InsertCells, DeleteCells, ScrollUp, ScrollDown, Fill, SelectiveErase}
 use Rattle.cells.specs.Cells.{plain, blank}
-use Rattle.vt.specs.declared.params.Params.{Params}
+use Rattle.parser.specs.declared.params.Params.{Params}
 use Rattle.vt.specs.declared.core.Modes.{Modes}
 use Rattle.vt.specs.declared.core.Margins.{Margins}
 use Rattle.vt.specs.declared.core.Core.{Core}
 use Rattle.vt.specs.declared.core.Decision.{Decision}
-use Rattle.vt.specs.Params.{param, paramN, paramList}
-use Rattle.vt.specs.Tabs.{withoutTab, noTabs}
-use Rattle.vt.specs.Cursor.{place, up, down, left, right, toColumn, offset}
+use Rattle.parser.specs.Params.{param, paramN, paramList}
+use Rattle.parser.specs.Families.{isPlain, isMarked, isProtection, isSoftReset}
+use Rattle.device.specs.Tabs.{withoutTab, noTabs}
+use Rattle.device.specs.Cursor.{place, up, down, left, right, toColumn, offset}
 use Rattle.vt.specs.Fresh.{freshCore}
 use Rattle.vt.specs.Escapes.{withOrigin}
 use Rattle.vt.specs.Effects.{withCursor, withMargins, withTabs, withModes, withRendition, withProtected, only, quiet}
@@ -261,21 +262,6 @@ markedSequence c q last =
     (cond (eqb last 0x68) (decModes true c q)
     (cond (eqb last 0x6C) (decModes false c q)
     (quiet c))))
-
--- which family a sequence is of, by its mark and intermediates
-abbrev pub isPlain : ℕ → ℕ → ℕ → Bool
-isPlain mark first second = eqb mark 0 && (eqb first 0 && eqb second 0)
-
-abbrev pub isMarked : ℕ → ℕ → ℕ → Bool
-isMarked mark first second = eqb mark 0x3F && (eqb first 0 && eqb second 0)
-
--- " q
-abbrev pub isProtection : ℕ → ℕ → ℕ → ℕ → Bool
-isProtection mark first second last = (eqb mark 0 && eqb first 0x22) && (eqb second 0 && eqb last 0x71)
-
--- ! p
-abbrev pub isSoftReset : ℕ → ℕ → ℕ → ℕ → Bool
-isSoftReset mark first second last = (eqb mark 0 && eqb first 0x21) && (eqb second 0 && eqb last 0x70)
 
 unfoldable pub sequenced : Core → Params → ℕ → ℕ → ℕ → ℕ → Decision
 sequenced c q mark first second last =

@@ -4,13 +4,13 @@ use Prim.Native.Nat.{ℕ, _-_}
 use lib.Dec.{eqb}
 use Rattle.cells.specs.declared.Edit.{Edit}
 use Rattle.cells.specs.declared.Edit.the-variants.{Keep, Put, InsertCells, ScrollUp}
-use Rattle.vt.specs.declared.cursor.Cursor.{Cursor}
+use Rattle.device.specs.declared.cursor.Cursor.{Cursor}
 use Rattle.vt.specs.declared.core.Margins.{Margins}
 use Rattle.vt.specs.declared.core.Modes.{Modes}
 use Rattle.vt.specs.declared.core.Core.{Core}
 use Rattle.vt.specs.declared.core.Decision.{Decision}
 use Rattle.vt.specs.declared.printing.Stroke.{Stroke}
-use Rattle.vt.specs.Cursor.{toColumn, index, advance}
+use Rattle.device.specs.Cursor.{toColumn, index, advance}
 use Rattle.vt.specs.Effects.{withCursor}
 
 abbrev pub scrollAt : Margins → Cursor → Edit

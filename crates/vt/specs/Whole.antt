@@ -1,38 +1,16 @@
 -- A whole state (document 01, "Whole state"), but for its last clause, on the changed rows: a test and a fact for each clause.
 use mathlib.Core.Path.{_≡_}
-use mathlib.Core.Bool.{Bool, true, false, not, _&&_, _||_}
+use mathlib.Core.Bool.{Bool, true, _&&_, _||_}
 use mathlib.Core.List.{List, [], _∷_}
 use Prim.Native.Nat.{ℕ, _≤_, _<_}
 use lib.Dec.{eqb, leb, ltb}
 use Rattle.vt.specs.declared.core.Core.{Core}
-use Rattle.vt.specs.declared.parser.Parser.{Parser}
-use Rattle.vt.specs.Params.{paramList}
-use Rattle.vt.specs.Parser.{between, intermediates}
+use Rattle.parser.specs.Parser.{between}
+use Rattle.parser.specs.WholeParser.{implies, all, parserTests, WholeParser}
 
 -- R is 24, 36 or 48
 abbrev pub sized : ℕ → Bool
 sized r = (eqb r 24 || eqb r 36) || eqb r 48
-
-abbrev pub implies : Bool → Bool → Bool
-implies a b = not a || b
-
-abbrev pub all : List Bool → Bool
-all [] = true
-all (t ∷ ts) = t && all ts
-
-abbrev pub allAtMost : ℕ → List ℕ → Bool
-allAtMost m [] = true
-allAtMost m (x ∷ xs) = leb x m && allAtMost m xs
-
--- at most 16 parameters, none above 9,999; at most two intermediates, 20 to 2F; mark none or 3C to 3F
-abbrev pub parserTests : Parser → List Bool
-parserTests p =
-    leb (p .params .separators) 16
-    ∷ allAtMost 9999 (paramList (p .params))
-    ∷ implies (leb 1 (intermediates (p .phase))) (between 0x20 (p .first) 0x2F)
-    ∷ implies (leb 2 (intermediates (p .phase))) (between 0x20 (p .second) 0x2F)
-    ∷ (eqb (p .mark) 0 || between 0x3C (p .mark) 0x3F)
-    ∷ []
 
 abbrev pub coreTests : Core → List Bool
 coreTests c =
@@ -51,13 +29,6 @@ unfoldable pub wholeCore : Core → Bool
 wholeCore c = all (coreTests c) && all (parserTests (c .parser))
 
 -- ---- the same, a fact for each clause
-
-pub record WholeParser (p : Parser) : Type 0 where
-  pub few : p .params .separators ≤ 16
-  pub small : allAtMost 9999 (paramList (p .params)) ≡ true
-  pub first : implies (leb 1 (intermediates (p .phase))) (between 0x20 (p .first) 0x2F) ≡ true
-  pub second : implies (leb 2 (intermediates (p .phase))) (between 0x20 (p .second) 0x2F) ≡ true
-  pub mark : (eqb (p .mark) 0 || between 0x3C (p .mark) 0x3F) ≡ true
 
 -- `rows-low` and `rows-high` follow from `size`, and are there for arithmetic
 pub record Whole (c : Core) : Type 0 where

@@ -3,23 +3,20 @@
 -- CSI g, h, l, m, n, c, " q, HTS, sets and shifts, ESC 7 and ESC sp; but ?6 and turning autowrap off clear it. Printing sets it, ESC 8
 -- restores it. All others clear it, even where they change nothing else.
 use mathlib.Core.Bool.{Bool, true, false, cond, _&&_, _||_}
-use mathlib.Core.List.{List, [], _∷_}
+use mathlib.Core.List.{[], _∷_}
 use Prim.Native.Nat.{ℕ}
 use lib.Dec.{eqb, leb}
-use Rattle.vt.specs.declared.params.Params.{Params}
-use Rattle.vt.specs.declared.parser.Action.{Action}
-use Rattle.vt.specs.declared.parser.Action.the-variants.{Nothing, Character, Substitute, Control, C1Control, EscapeSequence, ControlSequence}
+use Rattle.parser.specs.declared.params.Params.{Params}
+use Rattle.parser.specs.declared.parser.Action.{Action}
+use Rattle.parser.specs.declared.parser.Action.the-variants.{Nothing, Character, Substitute, Control, C1Control, EscapeSequence, ControlSequence}
 use Rattle.vt.specs.declared.core.Core.{Core}
 use Rattle.vt.specs.declared.core.Decision.{Decision}
-use Rattle.vt.specs.Params.{param, paramList}
-use Rattle.vt.specs.Parser.{between}
-use Rattle.vt.specs.Cursor.{noWrap}
-use Rattle.vt.specs.Sequences.{insideMargins, marginsTaken, isPlain, isMarked, isSoftReset}
+use Rattle.parser.specs.Params.{param, paramList, member}
+use Rattle.parser.specs.Parser.{between}
+use Rattle.device.specs.Cursor.{noWrap}
+use Rattle.vt.specs.Sequences.{insideMargins, marginsTaken}
+use Rattle.parser.specs.Families.{isPlain, isMarked, isSoftReset}
 use Rattle.vt.specs.Effects.{withCursor}
-
-abbrev pub member : ℕ → List ℕ → Bool
-member x [] = false
-member x (y ∷ ys) = eqb x y || member x ys
 
 -- BS, HT, LF, VT, FF, CR
 abbrev pub controlClears : ℕ → Bool

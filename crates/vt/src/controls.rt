@@ -1,15 +1,15 @@
 // The controls: below 20 and 80 to 9F.
-use crate::charsets::Register;
-use crate::charsets::SingleShift;
 use crate::core::Core;
 use crate::core::Decision;
 use crate::core::Margins;
-use crate::cursor::Cursor;
 use crate::effects::only;
 use crate::effects::quiet;
 use crate::effects::with_shift;
 use crate::printing::index_edit;
 use cells::Edit;
+use device::charsets::Register;
+use device::charsets::SingleShift;
+use device::cursor::Cursor;
 ghost use mathlib.Core.Path.{_≡_};
 ghost use mathlib.Core.Bool.{Bool, cond};
 ghost use Prim.Native.Nat.{_-_, _≤_};

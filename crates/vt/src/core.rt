@@ -1,11 +1,11 @@
 // The state of the terminal, but for the changed rows.
-use crate::charsets::Sets;
-use crate::charsets::SingleShift;
-use crate::cursor::Cursor;
-use crate::parser::Parser;
-use crate::tabs::Tabs;
 use cells::Edit;
 use cells::Rendition;
+use device::charsets::Sets;
+use device::charsets::SingleShift;
+use device::cursor::Cursor;
+use device::tabs::Tabs;
+use parser::parser::Parser;
 
 // Rows T to B scroll.
 pub struct Margins {

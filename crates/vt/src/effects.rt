@@ -1,10 +1,10 @@
 // What a byte does to core and page, put together.
-use crate::charsets::SingleShift;
 use crate::core::Core;
 use crate::core::Decision;
 use cells::Edit;
+use device::charsets::SingleShift;
 ghost use mathlib.Core.Path.{_≡_};
-ghost use Rattle.vt.specs.declared.charsets.SingleShift.the-variants.{NoShift};
+ghost use Rattle.device.specs.declared.charsets.SingleShift.the-variants.{NoShift};
 ghost use Rattle.vt.specs.Effects as effects;
 
 // One step with this edit.

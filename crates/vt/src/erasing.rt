@@ -1,20 +1,20 @@
 // Control sequences that erase. Margins don't matter.
 use crate::core::Core;
 use crate::core::Decision;
-use crate::cursor::Cursor;
 use crate::effects::only;
 use crate::effects::quiet;
-use crate::numbers::at_most;
-use crate::numbers::pick_wide;
-use crate::params::Params;
 use cells::Edit;
+use device::cursor::Cursor;
+use parser::numbers::at_most;
+use parser::numbers::pick_wide;
+use parser::params::Params;
 ghost use mathlib.Core.Path.{_≡_};
 ghost use mathlib.Core.Bool.{Bool, cond};
 ghost use Prim.Native.Nat.{_+_, _≤_};
 ghost use lib.Dec.{eqb};
 ghost use Rattle.vt.specs.Bounds.{Bounds};
-ghost use Rattle.vt.specs.Cursor.{offset};
-ghost use Rattle.vt.specs.Params.{param};
+ghost use Rattle.device.specs.Cursor.{offset};
+ghost use Rattle.parser.specs.Params.{param};
 ghost use Rattle.vt.specs.Sequences as sequences;
 
 // A run of cells in reading order: it ends before `to`.

@@ -1,5 +1,4 @@
 // Escape sequences. An intermediate that is not there is 0.
-use crate::charsets::Register;
 use crate::controls::into_gl;
 use crate::core::Core;
 use crate::core::Decision;
@@ -9,9 +8,10 @@ use crate::effects::only;
 use crate::effects::quiet;
 use crate::fresh::fresh_core;
 use crate::fresh::fresh_cursor;
-use crate::numbers::pick;
 use cells::CharSet;
 use cells::Edit;
+use device::charsets::Register;
+use parser::numbers::pick;
 ghost use mathlib.Core.Path.{_≡_};
 ghost use Rattle.vt.specs.Escapes as escapes;
 

@@ -1,19 +1,19 @@
 // The fresh state.
-use crate::charsets::Sets;
-use crate::charsets::SingleShift;
 use crate::core::Core;
 use crate::core::Margins;
 use crate::core::Modes;
 use crate::core::Saved;
-use crate::cursor::Cursor;
-use crate::parser::Parser;
-use crate::parser::Phase;
-use crate::tabs::Tabs;
 use cells::Rendition;
+use device::charsets::Sets;
+use device::charsets::SingleShift;
+use device::cursor::Cursor;
+use device::tabs::Tabs;
+use parser::parser::Parser;
+use parser::parser::Phase;
 ghost use mathlib.Core.Path.{_≡_};
 ghost use Rattle.cells.specs.Cells.{plain};
-ghost use Rattle.vt.specs.Tabs.{everyEighth};
-ghost use Rattle.vt.specs.Cursor.{place};
+ghost use Rattle.device.specs.Tabs.{everyEighth};
+ghost use Rattle.device.specs.Cursor.{place};
 ghost use Rattle.vt.specs.Fresh.{freshModes, freshSaved, freshCore};
 
 // Row 1, column 1.

@@ -1,6 +1,4 @@
 // Control sequences for tabs, modes, rendition, protection and margins, and the soft reset.
-use crate::charsets::Sets;
-use crate::charsets::SingleShift;
 use crate::core::Core;
 use crate::core::Decision;
 use crate::core::Margins;
@@ -8,15 +6,17 @@ use crate::core::Modes;
 use crate::effects::quiet;
 use crate::fresh::fresh_saved;
 use crate::fresh::plain_rendition;
-use crate::numbers::pick;
-use crate::params::Params;
 use cells::Rendition;
+use device::charsets::Sets;
+use device::charsets::SingleShift;
+use parser::numbers::pick;
+use parser::params::Params;
 ghost use mathlib.Core.Path.{_≡_};
 ghost use mathlib.Core.Bool.{Bool, cond, _||_};
 ghost use Prim.Native.Nat.{_≤_};
 ghost use lib.Dec.{eqb, ltb};
 ghost use Rattle.vt.specs.Bounds.{Bounds};
-ghost use Rattle.vt.specs.Params.{paramList};
+ghost use Rattle.parser.specs.Params.{paramList};
 ghost use Rattle.vt.specs.Sequences as sequences;
 
 // TBC: 0 the tab here, 3 all.

@@ -2,11 +2,11 @@
 use crate::core::Core;
 use crate::core::Decision;
 use crate::effects::quiet;
-use crate::numbers::at_most;
-use crate::numbers::on;
-use crate::numbers::or_one;
-use crate::numbers::pick;
-use crate::params::Params;
+use parser::numbers::at_most;
+use parser::numbers::on;
+use parser::numbers::or_one;
+use parser::numbers::pick;
+use parser::params::Params;
 ghost use mathlib.Core.Path.{_≡_};
 ghost use Prim.Native.Nat.{_≤_};
 ghost use Rattle.vt.specs.Sequences as sequences;

@@ -1,18 +1,18 @@
 // Printing: a byte 20 to 7F or A0 to FF, and SUB.
-use crate::charsets::Sets;
-use crate::charsets::SingleShift;
-use crate::charsets::has_96;
 use crate::core::Core;
 use crate::core::Decision;
 use crate::core::Margins;
 use crate::core::Modes;
-use crate::cursor::Cursor;
 use crate::effects::quiet;
 use crate::effects::without_shift;
 use cells::Cell;
 use cells::CharSet;
 use cells::Edit;
 use cells::Rendition;
+use device::charsets::Sets;
+use device::charsets::SingleShift;
+use device::charsets::has_96;
+use device::cursor::Cursor;
 ghost use mathlib.Core.Path.{_≡_};
 ghost use mathlib.Core.Bool.{Bool, cond};
 ghost use Prim.Native.Nat.{_-_, _≤_};
@@ -20,7 +20,7 @@ ghost use lib.Dec.{eqb, ltb};
 ghost use Rattle.cells.specs.declared.Edit.the-variants.{Keep, Put, InsertCells, ScrollUp};
 ghost use Rattle.cells.specs.Cells.{setNumber, bit, renditionBits, packed};
 ghost use Rattle.vt.specs.Bounds.{Bounds};
-ghost use Rattle.vt.specs.Charsets.{leftSet, rightSet};
+ghost use Rattle.device.specs.Charsets.{leftSet, rightSet};
 ghost use Rattle.vt.specs.Strokes.{stroke};
 ghost use Rattle.vt.specs.Printing as printing;
 

@@ -1,34 +1,19 @@
 // What the terminal sends back: which reply an action draws.
 use crate::core::Core;
-use crate::families::is_marked;
-use crate::families::is_plain;
-use crate::numbers::back;
-use crate::numbers::pick;
-use crate::params::Params;
-use crate::parser::Action;
+use device::sending::Reply;
+use parser::families::is_marked;
+use parser::families::is_plain;
+use parser::numbers::back;
+use parser::numbers::pick;
+use parser::params::Params;
+use parser::parser::Action;
 ghost use mathlib.Core.Path.{_≡_};
 ghost use mathlib.Core.Bool.{Bool, cond};
 ghost use lib.Dec.{eqb};
 ghost use Rattle.vt.specs.Bounds.{Bounds};
-ghost use Rattle.vt.specs.declared.parser.Action.the-variants.{ControlSequence};
-ghost use Rattle.vt.specs.declared.reply.Reply.the-variants.{Silent, PrimaryAttributes};
+ghost use Rattle.parser.specs.declared.parser.Action.the-variants.{ControlSequence};
+ghost use Rattle.device.specs.declared.sending.Reply.the-variants.{Silent, PrimaryAttributes};
 ghost use Rattle.vt.specs.Replies.{reportedRow, plainReply, markedReply, isSecondary, replyTo};
-
-pub enum Reply {
-    Silent,
-    // DA: a VT420 with selective erase.
-    PrimaryAttributes,
-    // Secondary DA.
-    SecondaryAttributes,
-    // DSR 5: no malfunction.
-    Status,
-    // CPR, the row counted from T with origin on.
-    Position { row: u8, column: u8 },
-    // DECXCPR: the same, with the page, which is 1.
-    ExtendedPosition { row: u8, column: u8 },
-    // DSR ?15: no printer.
-    Printer,
-}
 
 // The cursor's row, counted from T with origin on.
 fn reported_row(core: Core) -> u8

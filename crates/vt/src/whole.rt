@@ -1,9 +1,9 @@
 // Whether a state is whole.
 use crate::core::Core;
-use crate::parser::Parser;
-use crate::rules::between;
-use crate::rules::intermediates;
+use parser::rules::between;
+use parser::whole::is_whole_parser;
 ghost use mathlib.Core.Path.{_≡_};
+ghost use Rattle.parser.specs.WholeParser.{all};
 ghost use Rattle.vt.specs.Whole as whole;
 
 pub fn is_sized(rows: u8) -> bool
@@ -13,7 +13,7 @@ pub fn is_sized(rows: u8) -> bool
 }
 
 fn is_whole_screen(core: Core) -> bool
-    ensures { λ r. ⌜ r ≡ whole.all (whole.coreTests core) ⌝ }
+    ensures { λ r. ⌜ r ≡ all (whole.coreTests core) ⌝ }
 {
     let cursor = core.cursor;
     let margins = core.margins;
@@ -28,19 +28,6 @@ fn is_whole_screen(core: Core) -> bool
         & between(1, saved.row, rows)
         & between(1, saved.column, 80)
         & (!saved.wrap | (saved.column == 80))
-}
-
-fn is_whole_parser(parser: Parser) -> bool
-    ensures { λ r. ⌜ r ≡ whole.all (whole.parserTests parser) ⌝ }
-{
-    let phase = parser.phase;
-    let params = parser.params;
-    let count = intermediates(phase);
-    (params.separators <= 16)
-        & params.at_most(9999)
-        & (!(1 <= count) | between(0x20, parser.first, 0x2F))
-        & (!(2 <= count) | between(0x20, parser.second, 0x2F))
-        & ((parser.mark == 0) | between(0x3C, parser.mark, 0x3F))
 }
 
 pub fn is_whole(core: Core) -> bool

@@ -1,18 +1,19 @@
 // Wrap due: the one policy, over the actions. Printing sets it, ESC 8 restores it.
 use crate::core::Core;
 use crate::core::Decision;
-use crate::families::is_marked;
-use crate::families::is_plain;
-use crate::families::is_soft_reset;
 use crate::inserting::inside_margins;
 use crate::modes::margins_taken;
-use crate::params::Params;
-use crate::parser::Action;
-use crate::rules::between;
+use parser::families::is_marked;
+use parser::families::is_plain;
+use parser::families::is_soft_reset;
+use parser::params::Params;
+use parser::parser::Action;
+use parser::rules::between;
 ghost use mathlib.Core.Path.{_≡_};
 ghost use mathlib.Core.Bool.{Bool};
 ghost use mathlib.Core.List.{List, [], _∷_};
-ghost use Rattle.vt.specs.declared.parser.Action.the-variants.{ControlSequence};
+ghost use Rattle.parser.specs.declared.parser.Action.the-variants.{ControlSequence};
+ghost use Rattle.parser.specs.Params.{member};
 ghost use Rattle.vt.specs.WrapDue as wrap;
 
 // BS, HT, LF, VT, FF, CR.
@@ -38,7 +39,7 @@ fn escape_clears(first: u8, second: u8, last: u8) -> bool
 
 // CUU, CUD, CUF, CUB, CUP, HVP, ECH.
 fn always_clears(last: u8) -> bool
-    ensures { λ r. ⌜ r ≡ wrap.member last (0x41 ∷ 0x42 ∷ 0x43 ∷ 0x44 ∷ 0x48 ∷ 0x66 ∷ 0x58 ∷ []) ⌝ }
+    ensures { λ r. ⌜ r ≡ member last (0x41 ∷ 0x42 ∷ 0x43 ∷ 0x44 ∷ 0x48 ∷ 0x66 ∷ 0x58 ∷ []) ⌝ }
 {
     (last == 0x41)
         | (last == 0x42)
@@ -51,14 +52,14 @@ fn always_clears(last: u8) -> bool
 
 // ED, EL.
 fn is_erase(last: u8) -> bool
-    ensures { λ r. ⌜ r ≡ wrap.member last (0x4A ∷ 0x4B ∷ []) ⌝ }
+    ensures { λ r. ⌜ r ≡ member last (0x4A ∷ 0x4B ∷ []) ⌝ }
 {
     (last == 0x4A) | (last == 0x4B)
 }
 
 // ICH, IL, DL, DCH.
 fn is_insert(last: u8) -> bool
-    ensures { λ r. ⌜ r ≡ wrap.member last (0x40 ∷ 0x4C ∷ 0x4D ∷ 0x50 ∷ []) ⌝ }
+    ensures { λ r. ⌜ r ≡ member last (0x40 ∷ 0x4C ∷ 0x4D ∷ 0x50 ∷ []) ⌝ }
 {
     (last == 0x40) | (last == 0x4C) | (last == 0x4D) | (last == 0x50)
 }

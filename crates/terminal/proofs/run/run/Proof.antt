@@ -6,8 +6,8 @@ use Prim.Native.Nat.{ℕ, _+_, _-_, _≤_, _<_}
 use native.Mathlib.Omega.{arith}
 use borrow.Author.Needs.{needs}
 use lib.ListN.{length, getD}
-use Rattle.vt.specs.declared.reply.Reply.{Reply}
-use Rattle.vt.specs.Replies.{replyBytes, Sent}
+use Rattle.device.specs.declared.sending.Reply.{Reply}
+use Rattle.device.specs.ReplyBytes.{replyBytes, Sent}
 use Rattle.vt.specs.Decide.{sends}
 use Rattle.terminal.proofs.FeedLoop.{Running, running-none, running-more, running-full, running-done}
 use Rattle.terminal.proofs.run.run.Statement.{statement}

@@ -3,7 +3,7 @@ use borrow.Author.Tests.{ne-eqb}
 use mathlib.Core.Path.{sym, ap, _∙_}
 use borrow.Author.Needs.{needs}
 use Rattle.vt.specs.Controls.{c1Controlled}
-use Rattle.vt.proofs.Choice.{take-no}
+use Rattle.parser.proofs.Choice.{take-no}
 use Rattle.vt.proofs.controls.c1_control.Statement.{statement}
 use Rattle.vt.proofs.controls.c1_control.Tie as tie
 

@@ -1,7 +1,7 @@
 -- The action is executed with the parser that `decode` gives.
 use mathlib.Core.Path.{ap, _∙_}
 use borrow.Author.Needs.{needs}
-use Rattle.vt.specs.declared.parser.Decoded.{Decoded}
+use Rattle.parser.specs.declared.parser.Decoded.{Decoded}
 use Rattle.vt.specs.Effects.{withParser}
 use Rattle.vt.specs.Decide.{executed, decided}
 use Rattle.vt.proofs.decide.decode_and_execute.Statement.{statement}

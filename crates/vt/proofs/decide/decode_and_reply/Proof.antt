@@ -1,7 +1,7 @@
 -- The action that is answered is the one that the byte asks for.
 use mathlib.Core.Path.{ap, _∙_}
 use borrow.Author.Needs.{needs}
-use Rattle.vt.specs.declared.parser.Decoded.{Decoded}
+use Rattle.parser.specs.declared.parser.Decoded.{Decoded}
 use Rattle.vt.specs.Replies.{replyTo}
 use Rattle.vt.proofs.decide.decode_and_reply.Statement.{statement}
 use Rattle.vt.proofs.decide.decode_and_reply.Tie as tie

@@ -5,7 +5,7 @@ use borrow.Author.Needs.{needs}
 use Prim.Native.Nat.{ℕ}
 use Rattle.vt.specs.Effects.{only}
 use Rattle.vt.specs.Sequences.{toBlank}
-use Rattle.vt.proofs.Choice.{take-yes, take-no}
+use Rattle.parser.proofs.Choice.{take-yes, take-no}
 use Rattle.vt.proofs.erasing.erase.Statement.{statement}
 use Rattle.vt.proofs.erasing.erase.Tie as tie
 

@@ -5,10 +5,10 @@ use borrow.Author.Needs.{needs}
 use Prim.Native.Nat.{ℕ}
 use Rattle.cells.specs.declared.Edit.the-variants.{Fill}
 use Rattle.cells.specs.Cells.{blank}
-use Rattle.vt.specs.Cursor.{offset}
-use Rattle.vt.specs.Params.{paramN}
+use Rattle.device.specs.Cursor.{offset}
+use Rattle.parser.specs.Params.{paramN}
 use Rattle.vt.specs.Effects.{only}
-use Rattle.vt.proofs.ParamLaws.{run-end}
+use Rattle.parser.proofs.ParamLaws.{run-end}
 use Rattle.vt.proofs.erasing.erase_characters.Statement.{statement}
 use Rattle.vt.proofs.erasing.erase_characters.Tie as tie
 

@@ -4,7 +4,7 @@ use mathlib.Core.Path.{sym, ap, _∙_}
 use borrow.Author.Needs.{needs}
 use Prim.Native.Nat.{ℕ}
 use Rattle.vt.specs.Escapes.{escaped}
-use Rattle.vt.proofs.Choice.{take-no}
+use Rattle.parser.proofs.Choice.{take-no}
 use Rattle.vt.proofs.escapes.escape.Statement.{statement}
 use Rattle.vt.proofs.escapes.escape.Tie as tie
 

@@ -1,6 +1,6 @@
 -- Each way is the definition's, by the test.
 use borrow.Author.Needs.{needs}
-use Rattle.vt.proofs.Choice.{take-yes, take-no}
+use Rattle.parser.proofs.Choice.{take-yes, take-no}
 use Rattle.vt.proofs.escapes.hash_escape.Statement.{statement}
 use Rattle.vt.proofs.escapes.hash_escape.Tie as tie
 

@@ -1,7 +1,7 @@
 -- Each way is the definition's, by whether the cursor is inside the margins.
 use mathlib.Core.Path.{sym, _∙_}
 use borrow.Author.Needs.{needs}
-use Rattle.vt.proofs.Choice.{take-yes, take-no}
+use Rattle.parser.proofs.Choice.{take-yes, take-no}
 use Rattle.vt.proofs.inserting.delete_characters.Statement.{statement}
 use Rattle.vt.proofs.inserting.delete_characters.Tie as tie
 

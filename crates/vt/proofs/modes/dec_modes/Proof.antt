@@ -4,10 +4,10 @@ use borrow.Author.Needs.{needs}
 use Prim.Native.Nat.{_+_, _-_}
 use lib.ListN.{length, drop}
 use Rattle.vt.specs.declared.core.Core.{Core}
-use Rattle.vt.specs.Params.{paramList}
+use Rattle.parser.specs.Params.{paramList}
 use Rattle.vt.specs.Sequences.{folded, decMode}
 use Rattle.vt.specs.Effects.{quiet}
-use Rattle.vt.proofs.ParamLaws.{list-more, list-end}
+use Rattle.parser.proofs.ParamLaws.{list-more, list-end}
 use Rattle.vt.proofs.modes.dec_modes.Statement.{statement}
 use Rattle.vt.proofs.modes.dec_modes.Tie as tie
 

@@ -4,10 +4,10 @@ use borrow.Author.Needs.{needs}
 use Prim.Native.Nat.{_+_, _-_}
 use lib.ListN.{length, drop}
 use Rattle.cells.specs.declared.Rendition.{Rendition}
-use Rattle.vt.specs.Params.{paramList}
+use Rattle.parser.specs.Params.{paramList}
 use Rattle.vt.specs.Sequences.{folded, rendered}
 use Rattle.vt.specs.Effects.{quiet, withRendition}
-use Rattle.vt.proofs.ParamLaws.{list-more, list-end}
+use Rattle.parser.proofs.ParamLaws.{list-more, list-end}
 use Rattle.vt.proofs.modes.select_graphic_rendition.Statement.{statement}
 use Rattle.vt.proofs.modes.select_graphic_rendition.Tie as tie
 

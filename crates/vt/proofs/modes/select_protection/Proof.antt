@@ -1,7 +1,7 @@
 -- Each way is the definition's, by the selector.
 use borrow.Author.Tests.{le-leb, lt-leb, eq-eqb, ne-eqb}
 use borrow.Author.Needs.{needs}
-use Rattle.vt.proofs.Choice.{take-yes, take-no}
+use Rattle.parser.proofs.Choice.{take-yes, take-no}
 use Rattle.vt.proofs.modes.select_protection.Statement.{statement}
 use Rattle.vt.proofs.modes.select_protection.Tie as tie
 

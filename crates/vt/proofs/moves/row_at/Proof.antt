@@ -2,7 +2,7 @@
 use mathlib.Core.Path.{_∙_}
 use native.Mathlib.Omega.{arith}
 use borrow.Author.Needs.{needs}
-use Rattle.vt.proofs.Choice.{take-yes, take-no}
+use Rattle.parser.proofs.Choice.{take-yes, take-no}
 use Rattle.vt.proofs.moves.row_at.Statement.{statement}
 use Rattle.vt.proofs.moves.row_at.Tie as tie
 

@@ -3,8 +3,8 @@ use native.Mathlib.Omega.{arith}
 use borrow.Author.Needs.{needs}
 use mathlib.Core.Bool.{_||_}
 use lib.Dec.{eqb}
-use Rattle.vt.proofs.Choice.{take-yes, take-no}
-use Rattle.vt.proofs.CellLaws.{still-low}
+use Rattle.parser.proofs.Choice.{take-yes, take-no}
+use Rattle.device.proofs.CursorLaws.{still-low}
 use Rattle.vt.proofs.printing.strike.Statement.{statement}
 use Rattle.vt.proofs.printing.strike.Tie as tie
 

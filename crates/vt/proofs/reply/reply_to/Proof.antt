@@ -1,7 +1,7 @@
 -- Each arm is the definition's clause for that action.
 use borrow.Author.Needs.{needs}
 use Rattle.vt.specs.Replies.{replyTo}
-use Rattle.vt.proofs.RuleLaws.{no-reply}
+use Rattle.vt.proofs.ActionLaws.{no-reply}
 use Rattle.vt.proofs.reply.reply_to.Statement.{statement}
 use Rattle.vt.proofs.reply.reply_to.Tie as tie
 

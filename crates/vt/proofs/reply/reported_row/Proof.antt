@@ -1,7 +1,7 @@
 -- The row is counted from the one that `pick` gives, as the definition has it.
 use native.Mathlib.Omega.{arith}
 use borrow.Author.Needs.{needs}
-use Rattle.vt.proofs.CellLaws.{counted}
+use Rattle.device.proofs.CursorLaws.{counted}
 use Rattle.vt.proofs.reply.reported_row.Statement.{statement}
 use Rattle.vt.proofs.reply.reported_row.Tie as tie
 

@@ -3,7 +3,7 @@ use borrow.Author.Tests.{ne-eqb}
 use mathlib.Core.Path.{sym, ap, _∙_}
 use borrow.Author.Needs.{needs}
 use Rattle.vt.specs.Sequences.{plainSequence}
-use Rattle.vt.proofs.Choice.{take-no}
+use Rattle.parser.proofs.Choice.{take-no}
 use Rattle.vt.proofs.sequences.plain_sequence.Statement.{statement}
 use Rattle.vt.proofs.sequences.plain_sequence.Tie as tie
 

@@ -2,7 +2,7 @@
 use mathlib.Core.Path.{sym, ap, _∙_}
 use borrow.Author.Needs.{needs}
 use Rattle.vt.specs.WrapDue.{clearsWrap}
-use Rattle.vt.proofs.RuleLaws.{keeps-wrap}
+use Rattle.vt.proofs.ActionLaws.{keeps-wrap}
 use Rattle.vt.proofs.wrap.clears_wrap.Statement.{statement}
 use Rattle.vt.proofs.wrap.clears_wrap.Tie as tie
 

@@ -2,7 +2,7 @@
 use borrow.Author.Tests.{eq-eqb, ne-eqb}
 use mathlib.Core.Path.{sym, _∙_}
 use borrow.Author.Needs.{needs}
-use Rattle.vt.proofs.Choice.{take-yes, take-no}
+use Rattle.parser.proofs.Choice.{take-yes, take-no}
 use Rattle.vt.proofs.wrap.marked_clears.Statement.{statement}
 use Rattle.vt.proofs.wrap.marked_clears.Tie as tie
 

@@ -1,7 +1,7 @@
 -- Each way is the definition's, by the final byte.
 use mathlib.Core.Path.{refl, sym, _∙_}
 use borrow.Author.Needs.{needs}
-use Rattle.vt.proofs.Choice.{take-yes, take-no}
+use Rattle.parser.proofs.Choice.{take-yes, take-no}
 use Rattle.vt.proofs.wrap.plain_clears.Statement.{statement}
 use Rattle.vt.proofs.wrap.plain_clears.Tie as tie
 

@@ -2,7 +2,7 @@
 use mathlib.Core.Path.{sym, _∙_}
 use borrow.Author.Needs.{needs}
 use Rattle.vt.specs.WrapDue.{clearsWrap}
-use Rattle.vt.proofs.Choice.{take-yes, take-no}
+use Rattle.parser.proofs.Choice.{take-yes, take-no}
 use Rattle.vt.proofs.wrap.sequence_clears.Statement.{statement}
 use Rattle.vt.proofs.wrap.sequence_clears.Tie as tie
 

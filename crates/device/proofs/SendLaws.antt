@@ -1,0 +1,118 @@
+-- Writing bytes one run after the other, and how long a reply is.
+use mathlib.Core.Path.{_≡_, refl, sym, ap, ap₂, _∙_, subst}
+use mathlib.Core.Bool.{Bool, true, false, cond}
+use mathlib.Core.List.{List, [], _∷_, _++_}
+use Prim.Native.Nat.{ℕ, suc, _+_, _-_, _≤_, _<_}
+use native.Mathlib.Nat.{add-zero, add-suc, suc-add, add-assoc}
+use native.Mathlib.Numerals.{add-one}
+use native.Mathlib.Omega.{arith}
+use lib.Dec.{ltb}
+use lib.ListN.{length, getD, take, set, length-set, length-append}
+use lib.Seq.{sets, take-suc, take-all}
+use denote.Enum.Declared.{tagOf}
+use types.Run.{OneOf, miss}
+use Rattle.device.specs.declared.sending.Reply.{Reply}
+use Rattle.device.specs.declared.sending.Reply.the-variants.{Silent, PrimaryAttributes, SecondaryAttributes, Status, Position, ExtendedPosition, Printer}
+use Rattle.device.specs.ReplyBytes.{Sent, decimal, csi, bodyOf, replyBytes, longestReply}
+use Rattle.device.proofs.sending.Reply as reply
+
+-- ---- one run after the other
+
+sets-append : (xs ys l : List ℕ) (i : ℕ) → sets l i (xs ++ ys) ≡ sets (sets l i xs) (i + length xs) ys
+sets-append [] ys l i = ap (λ (k : ℕ). sets l k ys) (sym (add-zero i))
+sets-append (x ∷ xs) ys l i =
+    sets-append xs ys (set l i x) (suc i)
+    ∙ ap (λ (k : ℕ). sets (sets (set l i x) (suc i) xs) k ys) (suc-add i (length xs) ∙ sym (add-suc i (length xs)))
+
+pub sent-none : (o : List ℕ) (at : ℕ) → Sent o at [] o at
+sent-none o at = record { is = refl; ends = sym (add-zero at); long = refl }
+
+pub sent-byte : (o : List ℕ) (at b : ℕ) → Sent o at (b ∷ []) (set o at b) (at + 1)
+sent-byte o at b = record { is = refl; ends = refl; long = length-set o at b }
+
+pub sent-more : {o : List ℕ} {at : ℕ} {xs : List ℕ} {o1 : List ℕ} {n1 : ℕ} {ys : List ℕ} {o2 : List ℕ} {n2 : ℕ}
+    → Sent o at xs o1 n1 → Sent o1 n1 ys o2 n2 → Sent o at (xs ++ ys) o2 n2
+sent-more {o} {at} {xs} {o1} {n1} {ys} {o2} {n2} a b = record {
+  is = b .is ∙ ap₂ (λ (l : List ℕ) (k : ℕ). sets l k ys) (a .is) (a .ends) ∙ sym (sets-append xs ys o at);
+  ends = b .ends ∙ ap (λ (k : ℕ). k + length ys) (a .ends) ∙ add-assoc at (length xs) (length ys) ∙ ap (λ (k : ℕ). at + k) (sym (length-append xs ys));
+  long = b .long ∙ a .long;
+}
+
+-- ---- a text, byte by byte
+
+pub text-none : (o : List ℕ) (at : ℕ) (text : List ℕ) → Sent o at (take 0 text) o (at + 0)
+text-none o at text = record { is = refl; ends = refl; long = refl }
+
+pub text-more : (o : List ℕ) (at : ℕ) (text out : List ℕ) (i : ℕ) → i < length text
+    → Sent o at (take i text) out (at + i)
+    → Sent o at (take (i + 1) text) (set out (at + i) (getD text i 0)) (at + (i + 1))
+text-more o at text out i h a =
+    subst (λ (xs : List ℕ). Sent o at xs (set out (at + i) (getD text i 0)) (at + (i + 1)))
+    (sym (ap (λ (n : ℕ). take n text) (add-one i) ∙ take-suc text i 0 h))
+    (subst (λ (n : ℕ). Sent o at (take i text ++ (getD text i 0 ∷ [])) (set out (at + i) (getD text i 0)) n)
+    (add-assoc at i 1)
+    (sent-more a (sent-byte out (at + i) (getD text i 0))))
+
+pub text-all : (o : List ℕ) (at : ℕ) (text out : List ℕ) (i : ℕ) → length text ≤ i
+    → Sent o at (take i text) out (at + i) → Sent o at text out (at + i)
+text-all o at text out i h a = subst (λ (xs : List ℕ). Sent o at xs out (at + i)) (take-all i text h) a
+
+-- ---- every reply but none is CSI and a body
+
+abbrev pub spoken : List ℕ
+spoken = 1 ∷ 2 ∷ 3 ∷ 4 ∷ 5 ∷ 6 ∷ []
+
+pub reply-is : (e : Bool) (r : Reply) → OneOf spoken (tagOf reply.the-type r) → csi e ++ bodyOf r ≡ replyBytes e r
+unfolding replyBytes
+reply-is e Silent h = absurd (miss spoken 0 tt h)
+reply-is e PrimaryAttributes h = refl
+reply-is e SecondaryAttributes h = refl
+reply-is e Status h = refl
+reply-is e (Position r c) h = refl
+reply-is e (ExtendedPosition r c) h = refl
+reply-is e Printer h = refl
+
+-- ---- lengths
+
+cond-length : (t : Bool) (x y : List ℕ) (n : ℕ) → length x ≤ n → length y ≤ n → length (cond t x y) ≤ n
+cond-length true x y n p q = p
+cond-length false x y n p q = q
+
+pub decimal-short : (n : ℕ) → length (decimal n) ≤ 2
+decimal-short n = cond-length (ltb n 10) _ _ 2 (omega arith) (omega arith)
+
+pub csi-short : (e : Bool) → length (csi e) ≤ 2
+csi-short true = omega arith
+csi-short false = omega arith
+
+pub place-length : (r c : ℕ) → length (decimal r ++ (0x3B ∷ []) ++ decimal c) ≡ length (decimal r) + length (decimal c) + 1
+place-length r c = simp length-append (omega arith)
+
+pub position-length : (r c : ℕ) → length (bodyOf (Position r c)) ≡ length (decimal r) + length (decimal c) + 2
+position-length r c = simp length-append (omega arith)
+
+pub extended-length : (r c : ℕ) → length (bodyOf (ExtendedPosition r c)) ≡ length (decimal r) + length (decimal c) + 5
+extended-length r c = simp length-append (omega arith)
+
+pub body-short : (r : Reply) → length (bodyOf r) ≤ 9
+body-short Silent = omega arith
+body-short PrimaryAttributes = omega arith
+body-short SecondaryAttributes = omega arith
+body-short Status = omega arith
+body-short (Position r c) = omega (arith, position-length r c, decimal-short r, decimal-short c)
+body-short (ExtendedPosition r c) = omega (arith, extended-length r c, decimal-short r, decimal-short c)
+body-short Printer = omega arith
+
+body-fits : (e : Bool) (r : Reply) → length (csi e ++ bodyOf r) ≤ 11
+body-fits e r = omega (arith, length-append (csi e) (bodyOf r), csi-short e, body-short r)
+
+-- the longest reply
+pub reply-short : (e : Bool) (r : Reply) → length (replyBytes e r) ≤ longestReply
+unfolding replyBytes
+reply-short e Silent = omega arith
+reply-short e PrimaryAttributes = body-fits e PrimaryAttributes
+reply-short e SecondaryAttributes = body-fits e SecondaryAttributes
+reply-short e Status = body-fits e Status
+reply-short e (Position r c) = body-fits e (Position r c)
+reply-short e (ExtendedPosition r c) = body-fits e (ExtendedPosition r c)
+reply-short e Printer = body-fits e Printer

@@ -1,0 +1,13 @@
+-- The row is what `held` says, and the rest is as the definition has it.
+use borrow.Author.Needs.{needs}
+use Rattle.device.proofs.cursor.Cursor.restore.Statement.{statement}
+use Rattle.device.proofs.cursor.Cursor.restore.Tie as tie
+
+held-requires : tie.Need-held-requires
+held-requires c κs = search needs
+
+returns : tie.Need-returns
+returns c = rw (c .before .held .ensures)
+
+pub restore-spec : {M : Type 1} → statement M
+restore-spec = tie.close (tie.spec held-requires returns)

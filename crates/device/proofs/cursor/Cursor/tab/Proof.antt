@@ -1,0 +1,13 @@
+-- The column is what `next` says, and the rest is as the definition has it.
+use borrow.Author.Needs.{needs}
+use Rattle.device.proofs.cursor.Cursor.tab.Statement.{statement}
+use Rattle.device.proofs.cursor.Cursor.tab.Tie as tie
+
+next-requires : tie.Need-next-requires
+next-requires c κs = search needs
+
+returns : tie.Need-returns
+returns c = rw (c .next .ensures)
+
+pub tab-spec : {M : Type 1} → statement M
+tab-spec = tie.close (tie.spec next-requires returns)

@@ -1,0 +1,13 @@
+-- The row is what `back` says, and the rest is as the definition has it.
+use borrow.Author.Needs.{needs}
+use Rattle.device.proofs.cursor.Cursor.up.Statement.{statement}
+use Rattle.device.proofs.cursor.Cursor.up.Tie as tie
+
+back-requires : tie.Need-back-requires
+back-requires c κs = search needs
+
+returns : tie.Need-returns
+returns c = rw (c .back .ensures)
+
+pub up-spec : {M : Type 1} → statement M
+up-spec = tie.close (tie.spec back-requires returns)

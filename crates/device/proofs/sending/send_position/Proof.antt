@@ -1,0 +1,22 @@
+-- The place and 52 are written one after the other.
+use native.Mathlib.Omega.{arith}
+use borrow.Author.Needs.{needs}
+use Rattle.device.proofs.SendLaws.{sent-more, place-length, position-length}
+use Rattle.device.proofs.sending.send_position.Statement.{statement}
+use Rattle.device.proofs.sending.send_position.Tie as tie
+
+send-place-requires : tie.Need-send-place-requires
+send-place-requires c κs = omega (arith, place-length (c .before .before .args .row) (c .before .before .args .column), position-length (c .before .before .args .row) (c .before .before .args .column))
+
+send-byte-requires : tie.Need-send-byte-requires
+send-byte-requires c κs = omega (arith, c .before .before .before .before .before .before .pre, place-length (c .before .before .before .before .before .before .args .row) (c .before .before .before .before .before .before .args .column), position-length (c .before .before .before .before .before .before .args .row) (c .before .before .before .before .before .before .args .column), c .before .before .before .send-place .ensures)
+
+same-length : tie.Need-same-length
+same-length c = search needs
+
+returns : tie.Need-returns
+returns c = sent-more (c .before .before .before .before .before .before .send-place .ensures) (c .before .before .send-byte .ensures)
+
+pub send-position-spec : {M : Type 1} → statement M
+send-position-spec =
+    tie.close (tie.spec send-place-requires send-byte-requires same-length returns)

@@ -1,0 +1,4 @@
+pub mod Tabs
+pub mod Charsets
+pub mod Cursor
+pub mod ReplyBytes

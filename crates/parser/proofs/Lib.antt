@@ -1,0 +1,4 @@
+pub mod Tests
+pub mod Choice
+pub mod ParamLaws
+pub mod RuleLaws

@@ -1,0 +1,13 @@
+-- The tests are the definition's.
+use borrow.Author.Needs.{needs}
+use Rattle.parser.proofs.rules.opens_string.Statement.{statement}
+use Rattle.parser.proofs.rules.opens_string.Tie as tie
+
+between-requires : tie.Need-between-requires
+between-requires c κs = search needs
+
+returns : tie.Need-returns
+returns c = rw (c .between .ensures)
+
+pub opens-string-spec : {M : Type 1} → statement M
+opens-string-spec = tie.close (tie.spec between-requires returns)

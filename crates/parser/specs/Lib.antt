@@ -1,0 +1,4 @@
+pub mod Params
+pub mod Parser
+pub mod Families
+pub mod WholeParser

@@ -1,0 +1,7 @@
+// The parser: parameters, phases, and what a byte asks for; and numbers that are held to a bound.
+pub mod families;
+pub mod numbers;
+pub mod params;
+pub mod parser;
+pub mod rules;
+pub mod whole;

@@ -1,0 +1,255 @@
+// The parser: where it stands in a sequence, and what a byte asks for.
+use crate::numbers::back;
+use crate::numbers::pick;
+use crate::params::Params;
+use crate::rules::between;
+use crate::rules::intermediates;
+use crate::rules::transition;
+ghost use mathlib.Core.Path.{_≡_};
+ghost use mathlib.Core.Bool.{Bool, cond};
+ghost use Prim.Native.Nat.{_-_};
+ghost use lib.Dec.{eqb};
+ghost use Rattle.parser.specs.Params.{withDigit, withSeparator};
+ghost use Rattle.parser.specs.Parser as parsing;
+
+// Where the parser stands. The phase tells how many of the intermediates count.
+pub enum Phase {
+    Ground,
+    Escape,
+    EscapeOne,
+    EscapeTwo,
+    EscapeIgnore,
+    CsiEntry,
+    CsiParam,
+    CsiOne,
+    CsiTwo,
+    CsiIgnore,
+    StringText,
+}
+
+// What is done with a byte.
+pub enum Op {
+    Ignore,
+    // A graphic character in ground.
+    Print,
+    // SUB.
+    Sub,
+    // A control below 20.
+    Execute,
+    // A control 80 to 9F, or its form with ESC.
+    C1,
+    // A sequence starts.
+    Clear,
+    // An intermediate.
+    Collect,
+    // A private mark.
+    Mark,
+    // A digit or 3B.
+    Param,
+    EscDispatch,
+    CsiDispatch,
+}
+
+// The range rules: the next phase and what is done, by the phase and the byte alone.
+pub struct Transition {
+    pub next: Phase,
+    pub op: Op,
+}
+
+// `mark` is 0 where the sequence has none. `first` and `second` are the intermediates.
+pub struct Parser {
+    pub phase: Phase,
+    pub mark: u8,
+    pub first: u8,
+    pub second: u8,
+    pub params: Params,
+}
+
+// What a byte asks the terminal to do. An intermediate or a mark that is not there is 0.
+pub enum Action {
+    Nothing,
+    Character {
+        byte: u8,
+    },
+    Substitute,
+    Control {
+        byte: u8,
+    },
+    C1Control {
+        byte: u8,
+    },
+    EscapeSequence {
+        first: u8,
+        second: u8,
+        last: u8,
+    },
+    ControlSequence {
+        mark: u8,
+        first: u8,
+        second: u8,
+        last: u8,
+    },
+}
+
+pub struct Decoded {
+    pub parser: Parser,
+    pub action: Action,
+}
+
+// The parameters after a digit or 3B.
+fn with_byte(params: Params, x: u8) -> Params
+    ensures { λ r. ⌜ r ≡ cond (eqb x 0x3B) (withSeparator params) (withDigit params (x - 0x30)) ⌝ }
+{
+    if x == 0x3B {
+        return params.with_separator();
+    }
+    params.with_digit(back(x, 0x30, 0))
+}
+
+// ESC 40 to 5F is the byte 40 higher.
+fn c1_byte(byte: u8) -> u8
+    ensures { λ r. ⌜ r ≡ parsing.c1Byte byte ⌝ }
+{
+    if between(0x80, byte, 0x9F) {
+        byte
+    } else {
+        byte % 128 + 0x40
+    }
+}
+
+impl Parser {
+    // Nothing read yet, in a phase.
+    pub fn cleared(phase: Phase) -> Self
+        ensures { λ r. ⌜ r ≡ parsing.cleared phase ⌝ }
+    {
+        Parser {
+            phase,
+            mark: 0,
+            first: 0,
+            second: 0,
+            params: Params::none(),
+        }
+    }
+
+    fn in_phase(self, phase: Phase) -> Self
+        ensures { λ r. ⌜ r ≡ parsing.inPhase phase self ⌝ }
+    {
+        let params = self.params;
+        Parser {
+            phase,
+            mark: self.mark,
+            first: self.first,
+            second: self.second,
+            params,
+        }
+    }
+
+    // The phase that is entered tells whether the intermediate is the first or the second.
+    fn collected(self, phase: Phase, x: u8) -> Self
+        ensures { λ r. ⌜ r ≡ parsing.collected phase self x ⌝ }
+    {
+        let count = intermediates(phase);
+        let params = self.params;
+        Parser {
+            phase,
+            mark: self.mark,
+            first: pick(count == 1, x, self.first),
+            second: pick(count == 2, x, self.second),
+            params,
+        }
+    }
+
+    fn marked(self, phase: Phase, x: u8) -> Self
+        ensures { λ r. ⌜ r ≡ parsing.marked phase self x ⌝ }
+    {
+        let params = self.params;
+        Parser {
+            phase,
+            mark: x,
+            first: self.first,
+            second: self.second,
+            params,
+        }
+    }
+
+    fn gathered(self, phase: Phase, x: u8) -> Self
+        ensures { λ r. ⌜ r ≡ parsing.gathered phase self x ⌝ }
+    {
+        let params = self.params;
+        Parser {
+            phase,
+            mark: self.mark,
+            first: self.first,
+            second: self.second,
+            params: with_byte(params, x),
+        }
+    }
+
+    // What the parser keeps of a byte.
+    fn kept(self, next: Phase, op: Op, byte: u8) -> Self
+        ensures { λ r. ⌜ r ≡ parsing.kept self next op byte ⌝ }
+    {
+        match op {
+            Op::Clear => Parser::cleared(next),
+            Op::Collect => self.collected(next, byte % 128),
+            Op::Mark => self.marked(next, byte % 128),
+            Op::Param => self.gathered(next, byte % 128),
+            _ => self.in_phase(next),
+        }
+    }
+
+    // The intermediates: one that is not there is 0.
+    fn first_of(self) -> u8
+        ensures { λ r. ⌜ r ≡ parsing.firstOf self ⌝ }
+    {
+        let phase = self.phase;
+        pick(1 <= intermediates(phase), self.first, 0)
+    }
+
+    fn second_of(self) -> u8
+        ensures { λ r. ⌜ r ≡ parsing.secondOf self ⌝ }
+    {
+        let phase = self.phase;
+        pick(2 <= intermediates(phase), self.second, 0)
+    }
+
+    // What a byte asks for.
+    fn asked(self, op: Op, byte: u8) -> Action
+        ensures { λ r. ⌜ r ≡ parsing.asked self op byte ⌝ }
+    {
+        match op {
+            Op::Print => Action::Character { byte },
+            Op::Sub => Action::Substitute,
+            Op::Execute => Action::Control { byte },
+            Op::C1 => Action::C1Control {
+                byte: c1_byte(byte),
+            },
+            Op::EscDispatch => Action::EscapeSequence {
+                first: self.first_of(),
+                second: self.second_of(),
+                last: byte % 128,
+            },
+            Op::CsiDispatch => Action::ControlSequence {
+                mark: self.mark,
+                first: self.first_of(),
+                second: self.second_of(),
+                last: byte % 128,
+            },
+            _ => Action::Nothing,
+        }
+    }
+
+    // One byte.
+    pub fn decode(self, byte: u8) -> Decoded
+        ensures { λ r. ⌜ r ≡ parsing.decode self byte ⌝ }
+    {
+        let phase = self.phase;
+        let step = transition(phase, byte);
+        let next = step.next;
+        let op = step.op;
+        Decoded {
+            parser: self.kept(next, op, byte),
+            action: self.asked(op, byte),
+        }
+    }
+}
