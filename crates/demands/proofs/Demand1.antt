@@ -15,9 +15,9 @@ use Rattle.cells.proofs.EditLaws.{every-edit}
 use Rattle.vt.specs.declared.core.Core.{Core}
 use Rattle.vt.specs.Whole.{sized}
 use Rattle.vt.specs.Fresh.{freshCore}
-use Rattle.vt.specs.Decide.{decided, sends}
-use Rattle.vt.proofs.Sound.{fresh-whole}
-use Rattle.vt.proofs.ReplyLength.{sends-short}
+use Rattle.dispatch.specs.Decide.{decided, sends}
+use Rattle.sound.proofs.Sound.{fresh-whole}
+use Rattle.sound.proofs.ReplyLength.{sends-short}
 use Rattle.terminal.specs.declared.State.{State}
 use Rattle.terminal.specs.declared.Answer.{Answer}
 use Rattle.terminal.specs.declared.Answer.the-variants.{Done, Broken, WrongSize, NoRoom, OffPage}

@@ -20,10 +20,10 @@ use Rattle.vt.specs.declared.core.Core.{Core}
 use Rattle.vt.specs.declared.core.Decision.{Decision}
 use Rattle.vt.specs.Whole.{Whole, sized}
 use Rattle.vt.specs.Fresh.{freshCore}
-use Rattle.vt.specs.Decide.{decided}
+use Rattle.dispatch.specs.Decide.{decided}
 use Rattle.parser.proofs.Tests.{or-left, or-right}
-use Rattle.vt.proofs.SoundParts.{Sound}
-use Rattle.vt.proofs.Sound.{decided-sound, fresh-whole}
+use Rattle.sound.proofs.SoundParts.{Sound}
+use Rattle.sound.proofs.Sound.{decided-sound, fresh-whole}
 use Rattle.terminal.specs.declared.State.{State}
 use Rattle.terminal.specs.declared.Answer.{Answer}
 use Rattle.terminal.specs.declared.Answer.the-variants.{Done}

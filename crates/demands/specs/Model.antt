@@ -9,7 +9,7 @@ use Rattle.cells.specs.Sets.{sizeOf, changed}
 use Rattle.cells.specs.Edits.{applied}
 use Rattle.vt.specs.declared.core.Core.{Core}
 use Rattle.vt.specs.Fresh.{freshCore}
-use Rattle.vt.specs.Decide.{decided}
+use Rattle.dispatch.specs.Decide.{decided}
 use Rattle.terminal.specs.Steps.{sent, readable}
 use Rattle.terminal.specs.Start.{blankPage}
 use Rattle.terminal.specs.Read.{cellAt}

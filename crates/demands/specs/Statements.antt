@@ -13,7 +13,7 @@ use Rattle.cells.specs.Edits.{applied, target, Within}
 use Rattle.vt.specs.declared.core.Core.{Core}
 use Rattle.vt.specs.Whole.{sized}
 use Rattle.device.specs.ReplyBytes.{longestReply}
-use Rattle.vt.specs.Decide.{sends}
+use Rattle.dispatch.specs.Decide.{sends}
 use Rattle.terminal.specs.declared.State.{State}
 use Rattle.terminal.specs.declared.Answer.{Answer}
 use Rattle.terminal.specs.declared.Answer.the-variants.{Done}

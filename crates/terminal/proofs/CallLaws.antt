@@ -9,7 +9,7 @@ use borrow.Author.Tests.{eq-eqb, ne-eqb, eqb-true, eqb-false, ltb-true, lt-ltb}
 use Rattle.vt.specs.Whole.{wholeCore}
 use Rattle.parser.specs.Parser.{between}
 use Rattle.parser.proofs.Tests.{and-left, and-right, and-both, between-low, between-high}
-use Rattle.vt.proofs.Wholeness.{facts, tested}
+use Rattle.sound.proofs.Wholeness.{facts, tested}
 use Rattle.terminal.specs.declared.State.{State}
 use Rattle.terminal.specs.declared.Answer.{Answer}
 use Rattle.terminal.specs.declared.Answer.the-variants.{Done, Broken, WrongSize, NoRoom, OffPage}

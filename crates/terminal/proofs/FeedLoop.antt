@@ -19,11 +19,11 @@ use Rattle.cells.proofs.EditLaws.{length-applied}
 use Rattle.vt.specs.declared.core.Core.{Core}
 use Rattle.vt.specs.declared.core.Decision.{Decision}
 use Rattle.vt.specs.Whole.{Whole}
-use Rattle.vt.specs.Decide.{decided, sends}
+use Rattle.dispatch.specs.Decide.{decided, sends}
 use Rattle.device.specs.ReplyBytes.{Sent}
 use Rattle.device.proofs.SendLaws.{sent-none, sent-more}
-use Rattle.vt.proofs.SoundParts.{Sound}
-use Rattle.vt.proofs.Sound.{decided-sound}
+use Rattle.sound.proofs.SoundParts.{Sound}
+use Rattle.sound.proofs.Sound.{decided-sound}
 use Rattle.terminal.specs.declared.State.{State}
 use Rattle.terminal.specs.declared.Answer.{Answer}
 use Rattle.terminal.specs.declared.Answer.the-variants.{Done, NoRoom}

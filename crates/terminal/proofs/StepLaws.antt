@@ -19,9 +19,9 @@ use Rattle.cells.proofs.EditLaws.{keep-applied, length-applied}
 use Rattle.vt.specs.declared.core.Core.{Core}
 use Rattle.vt.specs.declared.core.Decision.{Decision}
 use Rattle.vt.specs.Whole.{Whole}
-use Rattle.vt.specs.Decide.{decided, sends}
-use Rattle.vt.proofs.SoundParts.{Sound}
-use Rattle.vt.proofs.Sound.{decided-sound}
+use Rattle.dispatch.specs.Decide.{decided, sends}
+use Rattle.sound.proofs.SoundParts.{Sound}
+use Rattle.sound.proofs.Sound.{decided-sound}
 use Rattle.terminal.specs.Steps.{Screen, Marked, edited, stepped, ran, ranCore, sent, readable}
 
 -- ---- appended input

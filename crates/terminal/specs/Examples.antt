@@ -19,11 +19,11 @@ use Rattle.vt.specs.Whole.{wholeCore}
 use Rattle.vt.specs.Printing.{put, printed, substituted}
 use Rattle.vt.specs.Controls.{controlled, c1Controlled}
 use Rattle.vt.specs.Escapes.{escaped}
-use Rattle.vt.specs.Sequences.{rendered, softReset, sequenced}
-use Rattle.vt.specs.WrapDue.{clearsWrap}
-use Rattle.vt.specs.Replies.{replyTo}
+use Rattle.csi.specs.Sequences.{rendered, softReset, sequenced}
+use Rattle.dispatch.specs.WrapDue.{clearsWrap}
+use Rattle.dispatch.specs.Replies.{replyTo}
 use Rattle.device.specs.ReplyBytes.{replyBytes}
-use Rattle.vt.specs.Decide.{executed, decided, sends}
+use Rattle.dispatch.specs.Decide.{executed, decided, sends}
 use Rattle.terminal.specs.Steps.{stepped, ran, sent, readable}
 use Rattle.terminal.specs.Whole.{wholeState}
 use Rattle.terminal.specs.declared.State.{State}

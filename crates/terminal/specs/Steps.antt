@@ -8,7 +8,7 @@ use Rattle.cells.specs.declared.Edit.{Edit}
 use Rattle.cells.specs.Sets.{added, changedIn}
 use Rattle.cells.specs.Edits.{applied, isKeep}
 use Rattle.vt.specs.declared.core.Core.{Core}
-use Rattle.vt.specs.Decide.{decided, sends}
+use Rattle.dispatch.specs.Decide.{decided, sends}
 
 -- what bytes act on: the core, the page, and the changed rows as bits
 pub record Screen : Type 0 where

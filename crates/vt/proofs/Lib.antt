@@ -1,15 +1,2 @@
-pub mod Wholeness
-pub mod SoundParts
-pub mod SoundMoves
-pub mod SoundPrinting
-pub mod SoundControls
-pub mod SoundEscapes
-pub mod SoundSequences
-pub mod SoundParser
-pub mod Sound
-pub mod ReplyLength
-pub mod BoundsLaws
-pub mod ActionLaws
 pub mod CellLaws
-pub mod PlainByte
 pub mod StrokeLaws

@@ -6,7 +6,3 @@ pub mod Printing
 pub mod Strokes
 pub mod Controls
 pub mod Escapes
-pub mod Sequences
-pub mod WrapDue
-pub mod Replies
-pub mod Decide

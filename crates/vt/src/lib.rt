@@ -1,17 +1,8 @@
-// All of the terminal that needs no page: what a byte does to its state, which edits it makes of the
-// page, and what it replies.
+// The terminal's state but for the changed rows, and what characters, controls and escape sequences do to it.
 pub mod controls;
 pub mod core;
-pub mod decide;
 pub mod effects;
-pub mod erasing;
 pub mod escapes;
 pub mod fresh;
-pub mod inserting;
-pub mod modes;
-pub mod moves;
 pub mod printing;
-pub mod reply;
-pub mod sequences;
 pub mod whole;
-pub mod wrap;

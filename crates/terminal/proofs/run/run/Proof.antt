@@ -8,7 +8,7 @@ use borrow.Author.Needs.{needs}
 use lib.ListN.{length, getD}
 use Rattle.device.specs.declared.sending.Reply.{Reply}
 use Rattle.device.specs.ReplyBytes.{replyBytes, Sent}
-use Rattle.vt.specs.Decide.{sends}
+use Rattle.dispatch.specs.Decide.{sends}
 use Rattle.terminal.proofs.FeedLoop.{Running, running-none, running-more, running-full, running-done}
 use Rattle.terminal.proofs.run.run.Statement.{statement}
 use Rattle.terminal.proofs.run.run.Tie as tie

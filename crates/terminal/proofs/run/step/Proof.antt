@@ -1,7 +1,7 @@
 -- What is decided is the definition's, its edits stay on the page, and the bits of both are joined.
 use mathlib.Core.Path.{_≡_, sym, ap, _∙_}
 use native.Mathlib.Omega.{arith}
-use Rattle.vt.proofs.Sound.{decided-sound}
+use Rattle.sound.proofs.Sound.{decided-sound}
 use Rattle.cells.proofs.EditLaws.{length-applied}
 use Rattle.terminal.proofs.FeedLoop.{step-is}
 use borrow.Author.Needs.{needs}

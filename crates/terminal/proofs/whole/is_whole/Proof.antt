@@ -4,7 +4,7 @@ use native.Mathlib.Nat.{one-mul}
 use native.Mathlib.Omega.{arith}
 use lib.Dec.{lit<}
 use lib.Pow.{shl-exact}
-use Rattle.vt.proofs.Wholeness.{facts}
+use Rattle.sound.proofs.Wholeness.{facts}
 use Rattle.terminal.specs.Whole.{wholeState}
 use borrow.Author.Needs.{needs}
 use Rattle.terminal.proofs.whole.is_whole.Statement.{statement}

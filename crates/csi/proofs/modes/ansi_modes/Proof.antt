@@ -1,0 +1,57 @@
+-- The loop's invariant: the rest of the parameters, from here, gives what all of them give from the start.
+use mathlib.Core.Path.{_≡_, refl, sym, ap, _∙_}
+use borrow.Author.Needs.{needs}
+use Prim.Native.Nat.{_+_, _-_}
+use lib.ListN.{length, drop}
+use Rattle.vt.specs.declared.core.Core.{Core}
+use Rattle.parser.specs.Params.{paramList}
+use Rattle.csi.specs.Sequences.{folded, ansiMode}
+use Rattle.vt.specs.Effects.{quiet}
+use Rattle.parser.proofs.ParamLaws.{list-more, list-end}
+use Rattle.csi.proofs.modes.ansi_modes.Statement.{statement}
+use Rattle.csi.proofs.modes.ansi_modes.Tie as tie
+
+abbrev Inv-loop : tie.InvT-loop
+Inv-loop core₀ params on count i₀ core i = folded (ansiMode on) core (drop i (paramList params)) ≡ folded (ansiMode on) core₀ (paramList params)
+
+abbrev μ-loop : tie.MeasureT-loop
+μ-loop core₀ params on count i₀ core i = count - i
+
+count-requires : tie.Need-count-requires Inv-loop μ-loop
+count-requires c κs = search needs
+
+loop-holds : tie.Need-loop-holds Inv-loop μ-loop
+loop-holds c = refl
+
+get-requires : tie.Need-get-requires Inv-loop μ-loop
+get-requires c κs = search needs
+
+ansi-mode-requires : tie.Need-ansi-mode-requires Inv-loop μ-loop
+ansi-mode-requires c κs = search needs
+
+add-i : tie.Need-add-i Inv-loop μ-loop
+add-i c = search needs
+
+loop-less : tie.Need-loop-less Inv-loop μ-loop
+loop-less c = search needs
+
+loop-again : tie.Need-loop-again Inv-loop μ-loop
+loop-again c =
+    let g = c .before .before .before .before .before .good .1 .0 in
+    let e : length (c .before .before .before .before .before .args .params .values) ≡ 16 = search needs in
+    ap (λ (x : Core). folded (ansiMode (c .before .before .before .before .before .args .on)) x (drop (c .before .before .before .loop .i + 1) (paramList (c .before .before .before .before .before .args .params)))) (c .ansi-mode .ensures ∙ ap (ansiMode (c .before .before .before .before .before .args .on) (c .before .before .before .loop .core)) (c .before .get .ensures))
+    ∙ sym (ap (folded (ansiMode (c .before .before .before .before .before .args .on)) (c .before .before .before .loop .core)) (list-more _ _ e (rw (c .before .before .before .before .count .ensures) at (c .before .before .loop-test .taken))))
+    ∙ c .before .before .before .loop .inv
+
+quiet-requires : tie.Need-quiet-requires Inv-loop μ-loop
+quiet-requires c κs = search needs
+
+returns : tie.Need-returns Inv-loop μ-loop
+returns c =
+    let g = c .before .before .before .before .good .1 .0 in
+    let e : length (c .before .before .before .before .args .params .values) ≡ 16 = search needs in
+    c .quiet .ensures
+    ∙ ap quiet (sym (ap (folded (ansiMode (c .before .before .before .before .args .on)) (c .before .before .loop .core)) (list-end _ _ e (rw (c .before .before .before .count .ensures) at (c .before .loop-test .left)))) ∙ c .before .before .loop .inv)
+
+pub ansi-modes-spec : {M : Type 1} → statement M
+ansi-modes-spec = tie.close (tie.spec Inv-loop μ-loop count-requires loop-holds get-requires ansi-mode-requires add-i loop-less loop-again quiet-requires returns)

@@ -1,0 +1,16 @@
+-- The cursor is what `home` says, and the rest is as the definition has it.
+use borrow.Author.Needs.{needs}
+use Rattle.csi.proofs.modes.origin_mode.Statement.{statement}
+use Rattle.csi.proofs.modes.origin_mode.Tie as tie
+
+pick-requires : tie.Need-pick-requires
+pick-requires c κs = search needs
+
+home-requires : tie.Need-home-requires
+home-requires c κs = search needs
+
+returns : tie.Need-returns
+returns c = rw (c .home .ensures, c .before .pick .ensures)
+
+pub origin-mode-spec : {M : Type 1} → statement M
+origin-mode-spec = tie.close (tie.spec pick-requires home-requires returns)

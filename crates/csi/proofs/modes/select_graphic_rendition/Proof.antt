@@ -1,0 +1,58 @@
+-- The loop's invariant: the rest of the parameters, from here, gives what all of them give from the start.
+use mathlib.Core.Path.{_≡_, refl, sym, ap, _∙_}
+use borrow.Author.Needs.{needs}
+use Prim.Native.Nat.{_+_, _-_}
+use lib.ListN.{length, drop}
+use Rattle.cells.specs.declared.Rendition.{Rendition}
+use Rattle.parser.specs.Params.{paramList}
+use Rattle.csi.specs.Sequences.{folded, rendered}
+use Rattle.vt.specs.Effects.{quiet, withRendition}
+use Rattle.parser.proofs.ParamLaws.{list-more, list-end}
+use Rattle.csi.proofs.modes.select_graphic_rendition.Statement.{statement}
+use Rattle.csi.proofs.modes.select_graphic_rendition.Tie as tie
+
+abbrev Inv-loop : tie.InvT-loop
+Inv-loop core params rendition₀ count i₀ rendition i = folded rendered rendition (drop i (paramList params)) ≡ folded rendered rendition₀ (paramList params)
+
+abbrev μ-loop : tie.MeasureT-loop
+μ-loop core params rendition₀ count i₀ rendition i = count - i
+
+count-requires : tie.Need-count-requires Inv-loop μ-loop
+count-requires c κs = search needs
+
+loop-holds : tie.Need-loop-holds Inv-loop μ-loop
+loop-holds c = refl
+
+get-requires : tie.Need-get-requires Inv-loop μ-loop
+get-requires c κs = search needs
+
+render-requires : tie.Need-render-requires Inv-loop μ-loop
+render-requires c κs = search needs
+
+add-i : tie.Need-add-i Inv-loop μ-loop
+add-i c = search needs
+
+loop-less : tie.Need-loop-less Inv-loop μ-loop
+loop-less c = search needs
+
+loop-again : tie.Need-loop-again Inv-loop μ-loop
+loop-again c =
+    let g = c .before .before .before .before .before .before .good .1 .0 in
+    let e : length (c .before .before .before .before .before .before .args .params .values) ≡ 16 = search needs in
+    ap (λ (x : Rendition). folded rendered x (drop (c .before .before .before .loop .i + 1) (paramList (c .before .before .before .before .before .before .args .params)))) (c .render .ensures ∙ ap (rendered (c .before .before .before .loop .rendition)) (c .before .get .ensures))
+    ∙ sym (ap (folded rendered (c .before .before .before .loop .rendition)) (list-more _ _ e (rw (c .before .before .before .before .count .ensures) at (c .before .before .loop-test .taken))))
+    ∙ c .before .before .before .loop .inv
+
+quiet-requires : tie.Need-quiet-requires Inv-loop μ-loop
+quiet-requires c κs = search needs
+
+returns : tie.Need-returns Inv-loop μ-loop
+returns c =
+    let g = c .before .before .before .before .before .good .1 .0 in
+    let e : length (c .before .before .before .before .before .args .params .values) ≡ 16 = search needs in
+    c .quiet .ensures
+    ∙ ap (λ (x : Rendition). quiet (withRendition (c .before .before .before .before .before .args .core) x))
+    (sym (ap (folded rendered (c .before .before .loop .rendition)) (list-end _ _ e (rw (c .before .before .before .count .ensures) at (c .before .loop-test .left)))) ∙ c .before .before .loop .inv)
+
+pub select-graphic-rendition-spec : {M : Type 1} → statement M
+select-graphic-rendition-spec = tie.close (tie.spec Inv-loop μ-loop count-requires loop-holds get-requires render-requires add-i loop-less loop-again quiet-requires returns)

@@ -1,0 +1,47 @@
+-- Each arm is the definition's for that final byte.
+use borrow.Author.Tests.{ne-eqb}
+use mathlib.Core.Path.{sym, ap, _∙_}
+use borrow.Author.Needs.{needs}
+use Rattle.csi.specs.Sequences.{markedSequence}
+use Rattle.parser.proofs.Choice.{take-no}
+use Rattle.csi.proofs.sequences.marked_sequence.Statement.{statement}
+use Rattle.csi.proofs.sequences.marked_sequence.Tie as tie
+
+selective-erase-in-display-requires : tie.Need-selective-erase-in-display-requires
+selective-erase-in-display-requires c κs = search needs
+
+selective-erase-in-line-requires : tie.Need-selective-erase-in-line-requires
+selective-erase-in-line-requires c κs = search needs
+
+dec-modes-requires : tie.Need-dec-modes-requires
+dec-modes-requires c κs = search needs
+
+dec-modes-requires-2 : tie.Need-dec-modes-requires-2
+dec-modes-requires-2 c κs = search needs
+
+quiet-requires : tie.Need-quiet-requires
+quiet-requires c κs = search needs
+
+returns : tie.Need-returns
+returns c = c .selective-erase-in-display .ensures ∙ ap (markedSequence (c .before .before .args .core) (c .before .before .args .params)) (sym (c .before .match .keys1))
+
+returns-2 : tie.Need-returns-2
+returns-2 c = c .selective-erase-in-line .ensures ∙ ap (markedSequence (c .before .before .args .core) (c .before .before .args .params)) (sym (c .before .match .keys2))
+
+returns-3 : tie.Need-returns-3
+returns-3 c = c .dec-modes .ensures ∙ ap (markedSequence (c .before .before .args .core) (c .before .before .args .params)) (sym (c .before .match .keys3))
+
+returns-4 : tie.Need-returns-4
+returns-4 c = c .dec-modes2 .ensures ∙ ap (markedSequence (c .before .before .args .core) (c .before .before .args .params)) (sym (c .before .match .keys4))
+
+returns-5 : tie.Need-returns-5
+returns-5 c =
+    let m = c .before .match .rest in
+    take-no _ _ (ne-eqb _ 0x4A (m .0 .0 .0 .1))
+    (take-no _ _ (ne-eqb _ 0x4B (m .0 .0 .1))
+    (take-no _ _ (ne-eqb _ 0x68 (m .0 .1))
+    (take-no _ _ (ne-eqb _ 0x6C (m .1))
+    (c .quiet .ensures))))
+
+pub marked-sequence-spec : {M : Type 1} → statement M
+marked-sequence-spec = tie.close (tie.spec selective-erase-in-display-requires selective-erase-in-line-requires dec-modes-requires dec-modes-requires-2 quiet-requires returns returns-2 returns-3 returns-4 returns-5)

@@ -1,0 +1,79 @@
+-- Each way is the definition's, by the family.
+use mathlib.Core.Path.{sym, _∙_}
+use borrow.Author.Needs.{needs}
+use Rattle.csi.specs.Sequences.{sequenced}
+use Rattle.parser.proofs.Choice.{take-yes, take-no}
+use Rattle.csi.proofs.sequences.sequence.Statement.{statement}
+use Rattle.csi.proofs.sequences.sequence.Tie as tie
+
+is-plain-requires : tie.Need-is-plain-requires
+is-plain-requires c κs = search needs
+
+plain-sequence-requires : tie.Need-plain-sequence-requires
+plain-sequence-requires c κs = search needs
+
+returns : tie.Need-returns
+unfolding sequenced
+returns c =
+    take-yes _ _ (sym (c .before .before .is-plain .ensures) ∙ c .before .if1 .taken)
+    (c .plain-sequence .ensures)
+
+is-marked-requires : tie.Need-is-marked-requires
+is-marked-requires c κs = search needs
+
+marked-sequence-requires : tie.Need-marked-sequence-requires
+marked-sequence-requires c κs = search needs
+
+returns-2 : tie.Need-returns-2
+unfolding sequenced
+returns-2 c =
+    take-no _ _ (sym (c .before .before .before .before .is-plain .ensures) ∙ c .before .before .before .if1 .left)
+    (take-yes _ _ (sym (c .before .before .is-marked .ensures) ∙ c .before .if2 .taken)
+    (c .marked-sequence .ensures))
+
+is-protection-requires : tie.Need-is-protection-requires
+is-protection-requires c κs = search needs
+
+select-protection-requires : tie.Need-select-protection-requires
+select-protection-requires c κs = search needs
+
+returns-3 : tie.Need-returns-3
+unfolding sequenced
+returns-3 c =
+    take-no _ _ (sym (c .before .before .before .before .before .before .is-plain .ensures) ∙ c .before .before .before .before .before .if1 .left)
+    (take-no _ _ (sym (c .before .before .before .before .is-marked .ensures) ∙ c .before .before .before .if2 .left)
+    (take-yes _ _ (sym (c .before .before .is-protection .ensures) ∙ c .before .if3 .taken)
+    (c .select-protection .ensures)))
+
+is-soft-reset-requires : tie.Need-is-soft-reset-requires
+is-soft-reset-requires c κs = search needs
+
+soft-reset-requires : tie.Need-soft-reset-requires
+soft-reset-requires c κs = search needs
+
+quiet-requires : tie.Need-quiet-requires
+quiet-requires c κs = search needs
+
+returns-4 : tie.Need-returns-4
+unfolding sequenced
+returns-4 c =
+    take-no _ _ (sym (c .before .before .before .before .before .before .before .before .before .is-plain .ensures) ∙ c .before .before .before .before .before .before .before .before .if1 .left)
+    (take-no _ _ (sym (c .before .before .before .before .before .before .before .is-marked .ensures) ∙ c .before .before .before .before .before .before .if2 .left)
+    (take-no _ _ (sym (c .before .before .before .before .before .is-protection .ensures) ∙ c .before .before .before .before .if3 .left)
+    (take-yes _ _ (sym (c .before .before .before .is-soft-reset .ensures) ∙ c .before .before .if4 .taken)
+    (c .quiet .ensures ∙ rw (c .before .soft-reset .ensures)))))
+
+quiet-requires-2 : tie.Need-quiet-requires-2
+quiet-requires-2 c κs = search needs
+
+returns-5 : tie.Need-returns-5
+unfolding sequenced
+returns-5 c =
+    take-no _ _ (sym (c .before .before .before .before .before .before .before .before .is-plain .ensures) ∙ c .before .before .before .before .before .before .before .if1 .left)
+    (take-no _ _ (sym (c .before .before .before .before .before .before .is-marked .ensures) ∙ c .before .before .before .before .before .if2 .left)
+    (take-no _ _ (sym (c .before .before .before .before .is-protection .ensures) ∙ c .before .before .before .if3 .left)
+    (take-no _ _ (sym (c .before .before .is-soft-reset .ensures) ∙ c .before .if4 .left)
+    (c .quiet2 .ensures))))
+
+pub sequence-spec : {M : Type 1} → statement M
+sequence-spec = tie.close (tie.spec is-plain-requires plain-sequence-requires returns is-marked-requires marked-sequence-requires returns-2 is-protection-requires select-protection-requires returns-3 is-soft-reset-requires soft-reset-requires quiet-requires returns-4 quiet-requires-2 returns-5)

@@ -1,0 +1,235 @@
+// Control sequences for tabs, modes, rendition, protection and margins, and the soft reset.
+use cells::Rendition;
+use device::charsets::Sets;
+use device::charsets::SingleShift;
+use parser::numbers::pick;
+use parser::params::Params;
+use vt::core::Core;
+use vt::core::Decision;
+use vt::core::Margins;
+use vt::core::Modes;
+use vt::effects::quiet;
+use vt::fresh::fresh_saved;
+use vt::fresh::plain_rendition;
+ghost use mathlib.Core.Path.{_≡_};
+ghost use mathlib.Core.Bool.{Bool, cond, _||_};
+ghost use Prim.Native.Nat.{_≤_};
+ghost use lib.Dec.{eqb, ltb};
+ghost use Rattle.vt.specs.Bounds.{Bounds};
+ghost use Rattle.parser.specs.Params.{paramList};
+ghost use Rattle.csi.specs.Sequences as sequences;
+
+// TBC: 0 the tab here, 3 all.
+pub fn clear_tabs(mut core: Core, params: Params) -> Decision
+    requires { ⌜ Bounds core ⌝ }
+    ensures { λ r. ⌜ r ≡ sequences.clearTabs core params ⌝ }
+{
+    let selector = params.get(0);
+    let tabs = core.tabs;
+    if selector == 0 {
+        core.tabs = tabs.clear(core.cursor.column);
+        return quiet(core);
+    }
+    if selector == 3 {
+        core.tabs = tabs.clear_all();
+        return quiet(core);
+    }
+    quiet(core)
+}
+
+// ---- modes: SM, RM take all parameters in order
+
+// 4 insert (IRM), 20 newline (LNM).
+fn ansi_mode(mut core: Core, value: u16, on: bool) -> Core
+    ensures { λ r. ⌜ r ≡ sequences.ansiMode on core value ⌝ }
+{
+    if value == 4 {
+        core.modes.insert = on;
+        return core;
+    }
+    if value == 20 {
+        core.modes.newline = on;
+        return core;
+    }
+    core
+}
+
+// DECOM: the cursor goes to row 1, or T if now on.
+fn origin_mode(mut core: Core, on: bool) -> Core
+    ensures { λ r. ⌜ r ≡ sequences.originMode on core ⌝ }
+{
+    let cursor = core.cursor;
+    core.modes.origin = on;
+    core.cursor = cursor.home(pick(on, core.margins.top, 1), 1);
+    core
+}
+
+// 6 origin, 7 autowrap (DECAWM), 25 cursor shown (DECTCEM).
+fn dec_mode(mut core: Core, value: u16, on: bool) -> Core
+    ensures { λ r. ⌜ r ≡ sequences.decMode on core value ⌝ }
+{
+    if value == 6 {
+        return origin_mode(core, on);
+    }
+    if value == 7 {
+        core.modes.autowrap = on;
+        return core;
+    }
+    if value == 25 {
+        core.modes.shown = on;
+        return core;
+    }
+    core
+}
+
+pub fn ansi_modes(mut core: Core, params: Params, on: bool) -> Decision
+    ensures { λ r. ⌜ r ≡ sequences.ansiModes on core params ⌝ }
+{
+    let count = params.count();
+    let mut i: u8 = 0;
+    while i < count {
+        core = ansi_mode(core, params.get(i), on);
+        i += 1;
+    }
+    quiet(core)
+}
+
+pub fn dec_modes(mut core: Core, params: Params, on: bool) -> Decision
+    ensures { λ r. ⌜ r ≡ sequences.decModes on core params ⌝ }
+{
+    let count = params.count();
+    let mut i: u8 = 0;
+    while i < count {
+        core = dec_mode(core, params.get(i), on);
+        i += 1;
+    }
+    quiet(core)
+}
+
+// ---- rendition and protection
+
+// One value of SGR.
+fn render(mut rendition: Rendition, value: u16) -> Rendition
+    ensures { λ r. ⌜ r ≡ sequences.rendered rendition value ⌝ }
+{
+    match value {
+        0 => {
+            return plain_rendition();
+        }
+        1 => rendition.bold = true,
+        4 => rendition.underline = true,
+        5 => rendition.blink = true,
+        7 => rendition.reverse = true,
+        22 => rendition.bold = false,
+        24 => rendition.underline = false,
+        25 => rendition.blink = false,
+        27 => rendition.reverse = false,
+        _ => {}
+    }
+    rendition
+}
+
+// SGR.
+pub fn select_graphic_rendition(mut core: Core, params: Params) -> Decision
+    ensures { λ r. ⌜ r ≡ sequences.selectRendition core params ⌝ }
+{
+    let mut rendition = core.rendition;
+    let count = params.count();
+    let mut i: u8 = 0;
+    while i < count {
+        rendition = render(rendition, params.get(i));
+        i += 1;
+    }
+    core.rendition = rendition;
+    quiet(core)
+}
+
+// DECSCA: 1 protects, 0 and 2 don't.
+pub fn select_protection(mut core: Core, params: Params) -> Decision
+    ensures { λ r. ⌜ r ≡ sequences.selectProtection core params ⌝ }
+{
+    let selector = params.get(0);
+    if selector == 1 {
+        core.protected = true;
+        return quiet(core);
+    }
+    if selector <= 2 {
+        core.protected = false;
+        return quiet(core);
+    }
+    quiet(core)
+}
+
+// ---- margins
+
+// The bottom that is asked for: 0 or above R is R.
+fn asked_bottom(rows: u8, asked: u16) -> u8
+    ensures { λ r. ⌜ r ≡ cond (eqb asked 0 || ltb rows asked) rows asked ⌝ }
+{
+    if asked == 0 {
+        return rows;
+    }
+    if (rows as u16) < asked {
+        rows
+    } else {
+        asked as u8
+    }
+}
+
+// Margins are taken if the top is above the bottom.
+pub fn margins_taken(core: Core, params: Params) -> bool
+    ensures { λ r. ⌜ r ≡ sequences.marginsTaken core params ⌝ }
+{
+    let bottom = asked_bottom(core.rows, params.get(1));
+    params.n() < bottom as u16
+}
+
+// DECSTBM: then cursor home, row 1 or T with origin on.
+pub fn set_margins(mut core: Core, params: Params) -> Decision
+    ensures { λ r. ⌜ r ≡ sequences.setMargins core params ⌝ }
+{
+    let asked = params.n();
+    let bottom = asked_bottom(core.rows, params.get(1));
+    if asked < bottom as u16 {
+        let cursor = core.cursor;
+        let top = asked as u8;
+        let margins = Margins { top, bottom };
+        core.margins = margins;
+        core.cursor = cursor.home(pick(core.modes.origin, top, 1), 1);
+        return quiet(core);
+    }
+    quiet(core)
+}
+
+// ---- DECSTR: cursor, tabs, newline and reply width stay
+
+pub fn soft_reset(core: Core) -> Core
+    ensures { λ r. ⌜ r ≡ sequences.softReset core ⌝ }
+{
+    let cursor = core.cursor;
+    let tabs = core.tabs;
+    let parser = core.parser;
+    Core {
+        rows: core.rows,
+        cursor,
+        margins: Margins {
+            top: 1,
+            bottom: core.rows,
+        },
+        tabs,
+        modes: Modes {
+            insert: false,
+            newline: core.modes.newline,
+            origin: false,
+            autowrap: false,
+            shown: true,
+            eightbit: core.modes.eightbit,
+        },
+        rendition: plain_rendition(),
+        protected: false,
+        sets: Sets::fresh(),
+        shift: SingleShift::NoShift,
+        saved: fresh_saved(),
+        parser,
+    }
+}

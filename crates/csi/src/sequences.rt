@@ -1,0 +1,94 @@
+// Control sequences: one guard on mark and intermediates, then the final byte.
+use crate::erasing::erase_characters;
+use crate::erasing::erase_in_display;
+use crate::erasing::erase_in_line;
+use crate::erasing::selective_erase_in_display;
+use crate::erasing::selective_erase_in_line;
+use crate::inserting::delete_characters;
+use crate::inserting::delete_lines;
+use crate::inserting::insert_characters;
+use crate::inserting::insert_lines;
+use crate::modes::ansi_modes;
+use crate::modes::clear_tabs;
+use crate::modes::dec_modes;
+use crate::modes::select_graphic_rendition;
+use crate::modes::select_protection;
+use crate::modes::set_margins;
+use crate::modes::soft_reset;
+use crate::moves::cursor_down;
+use crate::moves::cursor_left;
+use crate::moves::cursor_position;
+use crate::moves::cursor_right;
+use crate::moves::cursor_up;
+use parser::families::is_marked;
+use parser::families::is_plain;
+use parser::families::is_protection;
+use parser::families::is_soft_reset;
+use parser::params::Params;
+use vt::core::Core;
+use vt::core::Decision;
+use vt::effects::quiet;
+ghost use mathlib.Core.Path.{_≡_};
+ghost use Rattle.vt.specs.Bounds.{Bounds};
+ghost use Rattle.csi.specs.Sequences as sequences;
+
+// With no mark and no intermediate.
+fn plain_sequence(core: Core, params: Params, last: u8) -> Decision
+    requires { ⌜ Bounds core ⌝ }
+    ensures { λ r. ⌜ r ≡ sequences.plainSequence core params last ⌝ }
+{
+    match last {
+        0x40 => insert_characters(core, params),
+        0x41 => cursor_up(core, params),
+        0x42 => cursor_down(core, params),
+        0x43 => cursor_right(core, params),
+        0x44 => cursor_left(core, params),
+        0x48 => cursor_position(core, params),
+        0x4A => erase_in_display(core, params),
+        0x4B => erase_in_line(core, params),
+        0x4C => insert_lines(core, params),
+        0x4D => delete_lines(core, params),
+        0x50 => delete_characters(core, params),
+        0x58 => erase_characters(core, params),
+        0x66 => cursor_position(core, params),
+        0x67 => clear_tabs(core, params),
+        0x68 => ansi_modes(core, params, true),
+        0x6C => ansi_modes(core, params, false),
+        0x6D => select_graphic_rendition(core, params),
+        0x72 => set_margins(core, params),
+        _ => quiet(core),
+    }
+}
+
+// With the mark ?.
+fn marked_sequence(core: Core, params: Params, last: u8) -> Decision
+    requires { ⌜ Bounds core ⌝ }
+    ensures { λ r. ⌜ r ≡ sequences.markedSequence core params last ⌝ }
+{
+    match last {
+        0x4A => selective_erase_in_display(core, params),
+        0x4B => selective_erase_in_line(core, params),
+        0x68 => dec_modes(core, params, true),
+        0x6C => dec_modes(core, params, false),
+        _ => quiet(core),
+    }
+}
+
+pub fn sequence(core: Core, params: Params, mark: u8, first: u8, second: u8, last: u8) -> Decision
+    requires { ⌜ Bounds core ⌝ }
+    ensures { λ r. ⌜ r ≡ sequences.sequenced core params mark first second last ⌝ }
+{
+    if is_plain(mark, first, second) {
+        return plain_sequence(core, params, last);
+    }
+    if is_marked(mark, first, second) {
+        return marked_sequence(core, params, last);
+    }
+    if is_protection(mark, first, second, last) {
+        return select_protection(core, params);
+    }
+    if is_soft_reset(mark, first, second, last) {
+        return quiet(soft_reset(core));
+    }
+    quiet(core)
+}

@@ -1,0 +1,42 @@
+-- What an arm for "the other actions" of a `match` gives is what the definition has for each of these actions.
+use mathlib.Core.Path.{_≡_, refl}
+use mathlib.Core.Bool.{false}
+use mathlib.Core.List.{List, [], _∷_}
+use Prim.Native.Nat.{ℕ}
+use denote.Enum.Declared.{tagOf}
+use types.Run.{OneOf, miss}
+use Rattle.parser.specs.declared.parser.Action.{Action}
+use Rattle.parser.specs.declared.parser.Action.the-variants.{Nothing, Character, Substitute, Control, C1Control, EscapeSequence, ControlSequence}
+use Rattle.parser.proofs.parser.Action as action
+use Rattle.vt.specs.declared.core.Core.{Core}
+use Rattle.device.specs.declared.sending.Reply.the-variants.{Silent}
+use Rattle.dispatch.specs.Replies.{replyTo}
+use Rattle.dispatch.specs.WrapDue.{clearsWrap}
+
+-- the actions that draw no reply
+abbrev pub silentActions : List ℕ
+silentActions = 0 ∷ 1 ∷ 2 ∷ 3 ∷ 5 ∷ []
+
+pub no-reply : (c : Core) (a : Action) → OneOf silentActions (tagOf action.the-type a) → Silent ≡ replyTo c a
+unfolding replyTo
+no-reply c Nothing h = refl
+no-reply c (Character b) h = refl
+no-reply c Substitute h = refl
+no-reply c (Control b) h = refl
+no-reply c (C1Control b) h = absurd (miss silentActions 4 tt h)
+no-reply c (EscapeSequence first second last) h = refl
+no-reply c (ControlSequence mark first second last) h = absurd (miss silentActions 6 tt h)
+
+-- the actions that leave wrap due to printing
+abbrev pub unsettledActions : List ℕ
+unsettledActions = 0 ∷ 1 ∷ 2 ∷ []
+
+pub keeps-wrap : (c : Core) (a : Action) → OneOf unsettledActions (tagOf action.the-type a) → false ≡ clearsWrap c a
+unfolding clearsWrap
+keeps-wrap c Nothing h = refl
+keeps-wrap c (Character b) h = refl
+keeps-wrap c Substitute h = refl
+keeps-wrap c (Control b) h = absurd (miss unsettledActions 3 tt h)
+keeps-wrap c (C1Control b) h = absurd (miss unsettledActions 4 tt h)
+keeps-wrap c (EscapeSequence first second last) h = absurd (miss unsettledActions 5 tt h)
+keeps-wrap c (ControlSequence mark first second last) h = absurd (miss unsettledActions 6 tt h)

@@ -1,0 +1,49 @@
+-- A graphic character in ground: the parser stays as it is, the character is printed, and no reply is drawn.
+use mathlib.Core.Path.{_≡_, refl, sym, ap, _∙_}
+use mathlib.Core.Bool.{Bool, true, false, not, _&&_}
+use Prim.Native.Nat.{ℕ}
+use native.Mathlib.Omega.{arith}
+use lib.Dec.{leb}
+use borrow.Author.Tests.{leb-true, not-true, le-ltb, ne-eqb}
+use Rattle.parser.specs.declared.parser.Phase.{Phase}
+use Rattle.parser.specs.declared.parser.Phase.the-variants.{Ground}
+use Rattle.parser.specs.declared.parser.Op.the-variants.{Print}
+use Rattle.parser.specs.declared.parser.Transition.{Transition}
+use Rattle.parser.specs.declared.parser.Parser.{Parser}
+use Rattle.parser.specs.declared.parser.Action.the-variants.{Character}
+use Rattle.parser.specs.declared.parser.Decoded.{Decoded}
+use Rattle.vt.specs.declared.core.Core.{Core}
+use Rattle.parser.specs.Parser.{between, to, transition, inPhase, kept, asked, decode}
+use Rattle.vt.specs.Printing.{printed}
+use Rattle.dispatch.specs.WrapDue.{clearsWrap}
+use Rattle.vt.specs.Effects.{withParser}
+use Rattle.device.specs.declared.sending.Reply.the-variants.{Silent}
+use Rattle.dispatch.specs.Replies.{replyTo}
+use Rattle.dispatch.specs.Decide.{executed, decided}
+use Rattle.parser.proofs.Tests.{and-left, and-right}
+
+-- 20 to 7F and A0 to FF
+abbrev pub graphic : ℕ → Bool
+graphic b = leb 0x20 b && not (between 0x80 b 0x9F)
+
+ground-rule : (b : ℕ) → graphic b ≡ true → transition Ground b ≡ to Ground Print
+unfolding transition
+ground-rule b h =
+    let l = leb-true 0x20 b (and-left (leb 0x20 b) (not (between 0x80 b 0x9F)) h) in
+    let n = not-true (between 0x80 b 0x9F) (and-right (leb 0x20 b) (not (between 0x80 b 0x9F)) h) in
+    rw (ne-eqb b 0x18 (omega arith), ne-eqb b 0x1A (omega arith), ne-eqb b 0x1B (omega arith), n, le-ltb b 0x20 l)
+
+pub plain-decode : (s : Parser) (b : ℕ) → s .phase ≡ Ground → graphic b ≡ true → decode s b ≡ record { parser = s; action = Character b }
+unfolding decode
+plain-decode s b e h =
+    ap (λ (t : Transition). record { parser = kept s (t .next) (t .op) b; action = asked s (t .op) b })
+    (ap (λ (p : Phase). transition p b) e ∙ ground-rule b h)
+    ∙ ap (λ (p : Phase). record { parser = inPhase p s; action = Character b }) (sym e)
+
+pub plain-decides : (c : Core) (b : ℕ) → c .parser .phase ≡ Ground → graphic b ≡ true → printed c b ≡ decided c b
+unfolding decided executed clearsWrap
+plain-decides c b e h = sym (ap (λ (d : Decoded). executed (withParser c (d .parser)) (d .action)) (plain-decode (c .parser) b e h))
+
+pub plain-silent : (c : Core) (b : ℕ) → c .parser .phase ≡ Ground → graphic b ≡ true → Silent ≡ replyTo c (decode (c .parser) b .action)
+unfolding replyTo
+plain-silent c b e h = sym (ap (λ (d : Decoded). replyTo c (d .action)) (plain-decode (c .parser) b e h))

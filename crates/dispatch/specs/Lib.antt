@@ -1,0 +1,3 @@
+pub mod WrapDue
+pub mod Replies
+pub mod Decide

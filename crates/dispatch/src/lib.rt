@@ -1,0 +1,4 @@
+// One byte: the parser's action is dispatched, wrap due is settled, and the reply is chosen.
+pub mod decide;
+pub mod reply;
+pub mod wrap;

@@ -1,0 +1,115 @@
+// What the terminal sends back: which reply an action draws.
+use device::sending::Reply;
+use parser::families::is_marked;
+use parser::families::is_plain;
+use parser::numbers::back;
+use parser::numbers::pick;
+use parser::params::Params;
+use parser::parser::Action;
+use vt::core::Core;
+ghost use mathlib.Core.Path.{_≡_};
+ghost use mathlib.Core.Bool.{Bool, cond};
+ghost use lib.Dec.{eqb};
+ghost use Rattle.vt.specs.Bounds.{Bounds};
+ghost use Rattle.parser.specs.declared.parser.Action.the-variants.{ControlSequence};
+ghost use Rattle.device.specs.declared.sending.Reply.the-variants.{Silent, PrimaryAttributes};
+ghost use Rattle.dispatch.specs.Replies.{reportedRow, plainReply, markedReply, isSecondary, replyTo};
+
+// The cursor's row, counted from T with origin on.
+fn reported_row(core: Core) -> u8
+    requires { ⌜ Bounds core ⌝ }
+    ensures { λ r. ⌜ r ≡ reportedRow core ⌝ }
+{
+    let first = pick(core.modes.origin, core.margins.top, 1);
+    back(core.cursor.row, first as u16, 0) + 1
+}
+
+// DA, DSR, CPR.
+fn plain_reply(core: Core, params: Params, last: u8) -> Reply
+    requires { ⌜ Bounds core ⌝ }
+    ensures { λ r. ⌜ r ≡ plainReply core params last ⌝ }
+{
+    let selector = params.get(0);
+    if (last == 0x63) & (selector == 0) {
+        return Reply::PrimaryAttributes;
+    }
+    if (last == 0x6E) & (selector == 5) {
+        return Reply::Status;
+    }
+    if (last == 0x6E) & (selector == 6) {
+        return Reply::Position {
+            row: reported_row(core),
+            column: core.cursor.column,
+        };
+    }
+    Reply::Silent
+}
+
+// DECXCPR and the printer's DSR.
+fn marked_reply(core: Core, params: Params, last: u8) -> Reply
+    requires { ⌜ Bounds core ⌝ }
+    ensures { λ r. ⌜ r ≡ markedReply core params last ⌝ }
+{
+    let selector = params.get(0);
+    if (last == 0x6E) & (selector == 6) {
+        return Reply::ExtendedPosition {
+            row: reported_row(core),
+            column: core.cursor.column,
+        };
+    }
+    if (last == 0x6E) & (selector == 15) {
+        return Reply::Printer;
+    }
+    Reply::Silent
+}
+
+// Secondary DA: > c.
+fn is_secondary(params: Params, mark: u8, first: u8, second: u8, last: u8) -> bool
+    ensures { λ r. ⌜ r ≡ isSecondary params mark first second last ⌝ }
+{
+    let selector = params.get(0);
+    ((mark == 0x3E) & ((first == 0) & (second == 0))) & ((last == 0x63) & (selector == 0))
+}
+
+fn sequence_reply(core: Core, mark: u8, first: u8, second: u8, last: u8) -> Reply
+    requires { ⌜ Bounds core ⌝ }
+    ensures { λ r. ⌜ r ≡ replyTo core (ControlSequence mark first second last) ⌝ }
+{
+    let params = core.parser.params;
+    if is_plain(mark, first, second) {
+        return plain_reply(core, params, last);
+    }
+    if is_marked(mark, first, second) {
+        return marked_reply(core, params, last);
+    }
+    if is_secondary(params, mark, first, second, last) {
+        return Reply::SecondaryAttributes;
+    }
+    Reply::Silent
+}
+
+// DECID is answered as DA.
+fn control_reply(byte: u8) -> Reply
+    ensures { λ r. ⌜ r ≡ cond (eqb byte 0x9A) PrimaryAttributes Silent ⌝ }
+{
+    if byte == 0x9A {
+        return Reply::PrimaryAttributes;
+    }
+    Reply::Silent
+}
+
+pub fn reply_to(core: Core, action: Action) -> Reply
+    requires { ⌜ Bounds core ⌝ }
+    ensures { λ r. ⌜ r ≡ replyTo core action ⌝ }
+{
+    match action {
+        Action::C1Control { byte } => control_reply(byte),
+        Action::ControlSequence {
+            mark,
+            first,
+            second,
+            last,
+        } => sequence_reply(core, mark, first, second, last),
+        _ => Reply::Silent,
+    }
+}

@@ -1,0 +1,142 @@
+-- The cursor's moves keep it on the page, and with origin on between the margins.
+use mathlib.Core.Path.{_≡_, refl, sym}
+use mathlib.Core.Bool.{Bool, true, false, cond, _||_, false≢true}
+use Prim.Native.Nat.{ℕ, zero, suc, _+_, _-_, _≤_, _<_, min, max}
+use native.Mathlib.Omega.{arith}
+use lib.Dec.{eqb, leb, ltb}
+use borrow.Author.Tests.{eqb-true, eqb-false, leb-true, leb-false, ltb-true, ltb-false}
+use Rattle.device.specs.declared.cursor.Cursor.{Cursor}
+use Rattle.device.specs.declared.tabs.Tabs.{Tabs}
+use Rattle.vt.specs.declared.core.Core.{Core}
+use Rattle.device.specs.Tabs.{isTab, nextAmong, nextTab}
+use Rattle.device.specs.Cursor.{place, up, down, left, right, toColumn, tab, index, reverseIndex, advance, restore}
+use Rattle.vt.specs.Effects.{withCursor}
+use Rattle.parser.proofs.Tests.{either}
+use Rattle.sound.proofs.SoundParts.{OnPage, Scrolls, OriginHeld, Parts, WrapHeld, WrapOf, no-wrap}
+
+-- a cursor that a core may have, but for wrap due
+pub record Fine (c : Core) (u : Cursor) : Type 0 where
+  pub place : OnPage (c .rows) (u .row) (u .column)
+  pub origin : OriginHeld (c .modes .origin) (c .margins .top) (c .margins .bottom) (u .row)
+
+pub own : (c : Core) → Parts c → Fine c (c .cursor)
+own c p = record { place = p .cursor; origin = p .origin }
+
+pub with-cursor : (c : Core) (u : Cursor) → Parts c → Fine c u → Parts (withCursor c u)
+with-cursor c u p f = record { size = p .size; count = p .count; cursor = f .place; margins = p .margins; origin = f .origin; saved = p .saved; parser = p .parser }
+
+next-low : (n : ℕ) (t : Tabs) (k : ℕ) → k ≤ nextAmong n t k
+unfolding nextAmong
+next-low zero t k = omega arith
+next-low (suc n) t k = either (λ (x : ℕ). k ≤ x) (isTab t (suc k)) (λ e. omega arith) (λ e. let l = next-low n t (suc k) in omega arith)
+
+next-high : (n : ℕ) (t : Tabs) (k : ℕ) → nextAmong n t k ≤ k + n
+unfolding nextAmong
+next-high zero t k = omega arith
+next-high (suc n) t k = either (λ (x : ℕ). x ≤ k + suc n) (isTab t (suc k)) (λ e. omega arith) (λ e. let h = next-high n t (suc k) in omega arith)
+
+module _ (c : Core) (u : Cursor) (p : Parts c) (f : Fine c u) where
+  -- the row stays
+  pub fine-column : (column : ℕ) → 1 ≤ column → column ≤ 80 → Fine c (place (u .row) column)
+  fine-column column low high = record {
+    place = record { row-low = f .place .row-low; row-high = f .place .row-high; column-low = low; column-high = high };
+    origin = f .origin;
+  }
+
+  -- the column stays
+  pub fine-row : (row : ℕ) → 1 ≤ row → row ≤ c .rows
+      → (c .modes .origin ≡ true → c .margins .top ≤ row) → (c .modes .origin ≡ true → row ≤ c .margins .bottom) → Fine c (place row (u .column))
+  fine-row row low high top bottom = record {
+    place = record { row-low = low; row-high = high; column-low = f .place .column-low; column-high = f .place .column-high };
+    origin = record { low = top; high = bottom };
+  }
+
+  pub fine-left : (n stop : ℕ) → 1 ≤ stop → stop ≤ u .column → Fine c (left u n stop)
+  fine-left n stop low high = fine-column (max stop (u .column - n)) (omega arith) (omega (arith, f .place .column-high))
+
+  pub fine-right : (n : ℕ) → Fine c (right u n 80)
+  fine-right n = fine-column (min 80 (u .column + n)) (omega (arith, f .place .column-low)) (omega arith)
+
+  pub fine-start : Fine c (toColumn u 1)
+  fine-start = fine-column 1 (omega arith) (omega arith)
+
+  -- CUU's stop: T, or the first row above it
+  pub fine-up : (n : ℕ) → Fine c (up u n (cond (leb (c .margins .top) (u .row)) (c .margins .top) 1))
+  fine-up n = go (leb (c .margins .top) (u .row)) refl
+    where
+      go : (t : Bool) → leb (c .margins .top) (u .row) ≡ t → Fine c (up u n (cond t (c .margins .top) 1))
+      go true e =
+          let below : c .margins .top ≤ u .row = leb-true (c .margins .top) (u .row) e in
+          fine-row (max (c .margins .top) (u .row - n)) (omega (arith, p .margins .low)) (omega (arith, f .place .row-high))
+          (λ h. omega arith) (λ h. let b = f .origin .high h in omega arith)
+      go false e =
+          let above : u .row < c .margins .top = leb-false (c .margins .top) (u .row) e in
+          fine-row (max 1 (u .row - n)) (omega arith) (omega (arith, f .place .row-high, f .place .row-low))
+          (λ h. let l = f .origin .low h in absurd (omega arith)) (λ h. let l = f .origin .low h in absurd (omega arith))
+
+  -- CUD's stop: B, or the last row below it
+  pub fine-down : (n : ℕ) → Fine c (down u n (cond (leb (u .row) (c .margins .bottom)) (c .margins .bottom) (c .rows)))
+  fine-down n = go (leb (u .row) (c .margins .bottom)) refl
+    where
+      go : (t : Bool) → leb (u .row) (c .margins .bottom) ≡ t → Fine c (down u n (cond t (c .margins .bottom) (c .rows)))
+      go true e =
+          let above : u .row ≤ c .margins .bottom = leb-true (u .row) (c .margins .bottom) e in
+          fine-row (min (c .margins .bottom) (u .row + n)) (omega (arith, f .place .row-low)) (omega (arith, p .margins .high))
+          (λ h. let l = f .origin .low h in omega (arith, p .margins .some)) (λ h. omega arith)
+      go false e =
+          let below : c .margins .bottom < u .row = leb-false (u .row) (c .margins .bottom) e in
+          fine-row (min (c .rows) (u .row + n)) (omega (arith, f .place .row-low, p .count .low)) (omega arith)
+          (λ h. let b = f .origin .high h in absurd (omega arith)) (λ h. let b = f .origin .high h in absurd (omega arith))
+
+  pub fine-index : Fine c (index u (c .margins .bottom) (c .rows))
+  fine-index = go (eqb (u .row) (c .margins .bottom)) (eqb (u .row) (c .rows)) refl refl
+    where
+      stay : Fine c (place (u .row) (u .column))
+      stay = record { place = f .place; origin = f .origin }
+
+      go : (s t : Bool) → eqb (u .row) (c .margins .bottom) ≡ s → eqb (u .row) (c .rows) ≡ t → Fine c (place (cond (s || t) (u .row) (u .row + 1)) (u .column))
+      go true t a b = stay
+      go false true a b = stay
+      go false false a b =
+          let not-bottom = eqb-false (u .row) (c .margins .bottom) a in
+          let not-last = eqb-false (u .row) (c .rows) b in
+          fine-row (u .row + 1) (omega arith) (omega (arith, f .place .row-high))
+          (λ h. let l = f .origin .low h in omega arith) (λ h. let b = f .origin .high h in omega arith)
+
+  pub fine-reverse-index : Fine c (reverseIndex u (c .margins .top))
+  fine-reverse-index = go (eqb (u .row) (c .margins .top)) (eqb (u .row) 1) refl refl
+    where
+      stay : Fine c (place (u .row) (u .column))
+      stay = record { place = f .place; origin = f .origin }
+
+      go : (s t : Bool) → eqb (u .row) (c .margins .top) ≡ s → eqb (u .row) 1 ≡ t → Fine c (place (cond (s || t) (u .row) (u .row - 1)) (u .column))
+      go true t a b = stay
+      go false true a b = stay
+      go false false a b =
+          let not-top = eqb-false (u .row) (c .margins .top) a in
+          let not-first = eqb-false (u .row) 1 b in
+          let low : 1 ≤ u .row = f .place .row-low in
+          let high : u .row ≤ c .rows = f .place .row-high in
+          fine-row (u .row - 1) (omega arith) (omega arith)
+          (λ h. let l = f .origin .low h in omega arith) (λ h. let b = f .origin .high h in omega arith)
+
+  pub fine-tab : Fine c (tab u (c .tabs) 80)
+  fine-tab =
+      let low : 1 ≤ u .column = f .place .column-low in
+      let high : u .column ≤ 80 = f .place .column-high in
+      let l = next-low (80 - u .column) (c .tabs) (u .column) in
+      let h = next-high (80 - u .column) (c .tabs) (u .column) in
+      fine-column (nextTab (c .tabs) (u .column) 80) (omega arith) (omega arith)
+
+  -- after a character was put
+  pub fine-advance : (autowrap : Bool) → Fine c (advance u 80 autowrap)
+  fine-advance autowrap =
+      either (Fine c) (ltb (u .column) 80)
+      (λ e. let l = ltb-true (u .column) 80 e in fine-column (u .column + 1) (omega arith) (omega arith))
+      (λ e. record { place = f .place; origin = f .origin })
+
+  pub advance-wrap : (autowrap : Bool) → WrapHeld (advance u 80 autowrap .wrap) (advance u 80 autowrap .column) autowrap
+  advance-wrap autowrap =
+      either (λ (v : Cursor). WrapHeld (v .wrap) (v .column) autowrap) (ltb (u .column) 80)
+      (λ e. no-wrap (u .column + 1) autowrap)
+      (λ e. let l = ltb-false (u .column) 80 e in let high = f .place .column-high in record { column = λ h. omega arith; mode = λ h. h })

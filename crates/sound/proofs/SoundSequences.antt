@@ -1,0 +1,290 @@
+-- Control sequences keep a core whole, and their edits stay on the page.
+use mathlib.Core.Path.{_≡_, refl, sym, _∙_}
+use mathlib.Core.Bool.{Bool, true, false, cond, _&&_, _||_, false≢true}
+use mathlib.Core.List.{List, [], _∷_}
+use Prim.Native.Nat.{ℕ, _+_, _-_, _*_, _≤_, _<_, min, max}
+use native.Mathlib.Omega.{arith}
+use lib.Dec.{eqb, leb, ltb}
+use borrow.Author.Tests.{leb-true, ltb-true, ltb-false, eqb-false, ne-eqb}
+use Rattle.cells.specs.declared.Edit.{Edit}
+use Rattle.cells.specs.declared.Edit.the-variants.{InsertCells, DeleteCells, ScrollUp, ScrollDown, Fill}
+use Rattle.cells.specs.Cells.{blank}
+use Rattle.cells.specs.Edits.{Within, RowsFit, CellsFit, RunFits}
+use Rattle.parser.specs.declared.params.Params.{Params}
+use Rattle.vt.specs.declared.core.Core.{Core}
+use Rattle.vt.specs.declared.core.Decision.{Decision}
+use Rattle.parser.specs.Params.{param, paramN, paramList, member}
+use Rattle.device.specs.Tabs.{withoutTab, noTabs}
+use Rattle.device.specs.Cursor.{place, up, down, left, right, toColumn, offset}
+use Rattle.vt.specs.Escapes.{withOrigin}
+use Rattle.vt.specs.Fresh.{freshCore}
+use Rattle.csi.specs.Sequences.{cursorUp, cursorDown, cursorRight, cursorLeft, rowAt, cursorPosition, erased, toBlank, toSpace, inPage, inRow, rowStart, eraseCharacters, insideMargins, rowsBelow, cellsRight, insertLines, deleteLines, insertCharacters, deleteCharacters, folded, clearTabs, ansiMode, originMode, decMode, ansiModes, decModes, withInsert, withNewline, withAutowrap, withShown, rendered, selectRendition, selectProtection, askedMargins, marginsTaken, setMargins, softReset, plainSequence, markedSequence, sequenced}
+use Rattle.parser.specs.Families.{isPlain, isMarked, isProtection, isSoftReset}
+use Rattle.dispatch.specs.WrapDue.{plainClears, markedClears}
+use Rattle.vt.specs.Effects.{withCursor, withMargins, withModes, withRendition, withProtected, only, quiet}
+use Rattle.parser.proofs.Tests.{either, and-left, and-right, at-number, or-left, or-right}
+use Rattle.sound.proofs.SoundParts.{OnPage, Scrolls, OriginHeld, Held, Parts, WrapHeld, WrapOf, Good, good-only, good-quiet, no-wrap}
+use Rattle.sound.proofs.SoundMoves.{Fine, own, with-cursor, fine-start, fine-up, fine-down, fine-left, fine-right}
+use Rattle.sound.proofs.SoundControls.{good-moved, good-tabs, good-same}
+use Rattle.sound.proofs.SoundEscapes.{home-on, full, origin-off, saved-home}
+
+module _ (c : Core) (t : Bool) (p : Parts c) where
+  -- ---- moving the cursor
+
+  good-up : (q : Params) → Good (c .rows) t (cursorUp c q)
+  good-up q = good-moved c t p (up (c .cursor) (paramN q) (cond (leb (c .margins .top) (c .cursor .row)) (c .margins .top) 1)) _ refl (fine-up c (c .cursor) p (own c p) (paramN q)) tt
+
+  good-down : (q : Params) → Good (c .rows) t (cursorDown c q)
+  good-down q = good-moved c t p (down (c .cursor) (paramN q) (cond (leb (c .cursor .row) (c .margins .bottom)) (c .margins .bottom) (c .rows))) _ refl (fine-down c (c .cursor) p (own c p) (paramN q)) tt
+
+  good-right : (q : Params) → Good (c .rows) t (cursorRight c q)
+  good-right q = good-moved c t p (right (c .cursor) (paramN q) 80) _ refl (fine-right c (c .cursor) p (own c p) (paramN q)) tt
+
+  good-left : (q : Params) → Good (c .rows) t (cursorLeft c q)
+  good-left q = good-moved c t p (left (c .cursor) (paramN q) 1) _ refl (fine-left c (c .cursor) p (own c p) (paramN q) 1 (omega arith) (p .cursor .column-low)) tt
+
+  position-fine : (o : Bool) (n k : ℕ) → 1 ≤ n → 1 ≤ k → k ≤ 80
+      → let row = cond o (min (c .margins .top + n - 1) (c .margins .bottom)) (min n (c .rows)) in
+      OnPage (c .rows) row k × OriginHeld o (c .margins .top) (c .margins .bottom) row
+  position-fine true n k ln lk hk =
+      let m = p .margins in
+      (record { row-low = omega arith; row-high = omega arith; column-low = lk; column-high = hk }, record { low = λ h. omega arith; high = λ h. omega arith })
+  position-fine false n k ln lk hk =
+      let r = p .count in
+      (record { row-low = omega arith; row-high = omega arith; column-low = lk; column-high = hk }, origin-off _ _ _)
+
+  good-position : (q : Params) → Good (c .rows) t (cursorPosition c q)
+  good-position q =
+      let column = min (max 1 (param q 1)) 80 in
+      let f = position-fine (c .modes .origin) (paramN q) column (omega arith) (omega arith) (omega arith) in
+      good-moved c t p (place (rowAt c (paramN q)) column) _ refl (record { place = f .0; origin = f .1 }) tt
+
+  -- ---- erasing: the cursor's cell is on the page and in its row
+
+  run-fits : (s base end : ℕ) → base ≤ offset (c .cursor) → offset (c .cursor) < end → end ≤ 80 * c .rows
+      → RunFits (c .rows) (cond (eqb s 0) (offset (c .cursor)) base) (cond (eqb s 1) (offset (c .cursor) + 1) end)
+  run-fits s base end low high on = go (eqb s 0) (eqb s 1)
+    where
+      go : (i j : Bool) → RunFits (c .rows) (cond i (offset (c .cursor)) base) (cond j (offset (c .cursor) + 1) end)
+      go true true = record { start = omega arith; end = omega arith }
+      go true false = record { start = omega arith; end = omega arith }
+      go false true = record { start = omega arith; end = omega arith }
+      go false false = record { start = omega arith; end = omega arith }
+
+  row-on : (rowStart c ≤ offset (c .cursor)) × (offset (c .cursor) < rowStart c + 80) × (rowStart c + 80 ≤ 80 * c .rows)
+  row-on = let o = p .cursor in (omega arith, omega arith, omega arith)
+
+  page-on : offset (c .cursor) < 80 * c .rows
+  page-on = let o = p .cursor in omega arith
+
+  module _ (h : WrapOf c) where
+    good-erased : (s base end : ℕ) (edit : ℕ → ℕ → Edit) → ((a z : ℕ) → RunFits (c .rows) a z → Within (c .rows) (edit a z))
+        → base ≤ offset (c .cursor) → offset (c .cursor) < end → end ≤ 80 * c .rows → Good (c .rows) t (erased c s base end edit)
+    good-erased s base end edit fits low high on =
+        either (Good (c .rows) t) (leb s 2)
+        (λ e. good-only c t _ p (λ _. h) (fits _ _ (run-fits s base end low high on)))
+        (λ e. good-same c t p h)
+
+    good-page : (s : ℕ) (edit : ℕ → ℕ → Edit) → ((a z : ℕ) → RunFits (c .rows) a z → Within (c .rows) (edit a z)) → Good (c .rows) t (inPage c s edit)
+    good-page s edit fits = good-erased s 0 (80 * c .rows) edit fits (omega arith) page-on (omega arith)
+
+    good-row : (s : ℕ) (edit : ℕ → ℕ → Edit) → ((a z : ℕ) → RunFits (c .rows) a z → Within (c .rows) (edit a z)) → Good (c .rows) t (inRow c s edit)
+    good-row s edit fits = good-erased s (rowStart c) (rowStart c + 80) edit fits (row-on .0) (row-on .1) (row-on .2)
+
+    good-erase-characters : (q : Params) → Good (c .rows) t (eraseCharacters c q)
+    good-erase-characters q =
+        let high = row-on .1 in
+        let on = row-on .2 in
+        good-only c t (Fill (offset (c .cursor)) (min (offset (c .cursor) + paramN q) (rowStart c + 80)) blank) p (λ _. h) (record { start = omega arith; end = omega arith })
+
+    -- ---- inserting and deleting
+
+    inside : insideMargins c ≡ true → (c .margins .top ≤ c .cursor .row) × (c .cursor .row ≤ c .margins .bottom)
+    inside e = (
+      leb-true _ _ (and-left (leb (c .margins .top) (c .cursor .row)) (leb (c .cursor .row) (c .margins .bottom)) e),
+      leb-true _ _ (and-right (leb (c .margins .top) (c .cursor .row)) (leb (c .cursor .row) (c .margins .bottom)) e),
+    )
+
+    lines-fit : (q : Params) → insideMargins c ≡ true → RowsFit (c .rows) (c .cursor .row - 1) (c .margins .bottom) 0 80 (min (paramN q) (rowsBelow c))
+    lines-fit q e =
+        let i = inside e in
+        let m = p .margins in
+        let o = p .cursor in
+        record { top = omega arith; end = m .high; left = omega arith; right = omega arith; count = omega arith }
+
+    cells-fit : (q : Params) → CellsFit (c .rows) (c .cursor .row - 1) (c .cursor .column - 1) 80 (min (paramN q) (cellsRight c))
+    cells-fit q =
+        let o = p .cursor in
+        record { row = omega arith; column = omega arith; end = omega arith; count = omega arith }
+
+    -- rows move, and the cursor goes to column 1
+    good-lines : (e : Edit) → (insideMargins c ≡ true → Within (c .rows) e) → Good (c .rows) t (cond (insideMargins c) (only (withCursor c (toColumn (c .cursor) 1)) e) (quiet c))
+    good-lines e fits = either (Good (c .rows) t) (insideMargins c)
+        (λ i. good-moved c t p (toColumn (c .cursor) 1) e refl (fine-start c (c .cursor) p (own c p)) (fits i))
+        (λ i. good-same c t p h)
+
+    good-cells : (e : Edit) → Within (c .rows) e → Good (c .rows) t (cond (insideMargins c) (only c e) (quiet c))
+    good-cells e fits = either (Good (c .rows) t) (insideMargins c) (λ i. good-only c t e p (λ _. h) fits) (λ i. good-same c t p h)
+
+    -- ---- tabs, rendition, protection
+
+    good-clear-tabs : (q : Params) → Good (c .rows) t (clearTabs c q)
+    good-clear-tabs q =
+        let G = Good (c .rows) t in
+        either G (eqb (param q 0) 0) (λ e. good-tabs c t p h (withoutTab (c .tabs) (c .cursor .column)))
+        (λ _. either G (eqb (param q 0) 3) (λ e. good-tabs c t p h noTabs) (λ _. good-same c t p h))
+
+    good-protection : (q : Params) → Good (c .rows) t (selectProtection c q)
+    good-protection q =
+        let G = Good (c .rows) t in
+        either G (eqb (param q 0) 1) (λ e. good-quiet (withProtected c true) t p (λ _. h))
+        (λ _. either G (leb (param q 0) 2) (λ e. good-quiet (withProtected c false) t p (λ _. h)) (λ _. good-same c t p h))
+
+  -- ---- margins and soft reset
+
+  asked-scrolls : (q : Params) → marginsTaken c q ≡ true → Scrolls (c .rows) (askedMargins c q .top) (askedMargins c q .bottom)
+  asked-scrolls q e = record {
+    low = omega arith;
+    some = ltb-true (askedMargins c q .top) (askedMargins c q .bottom) e;
+    high = either (λ (b : ℕ). b ≤ c .rows) (eqb (param q 1) 0 || ltb (c .rows) (param q 1)) (λ _. omega arith)
+        (λ f. ltb-false (c .rows) (param q 1) (or-right (eqb (param q 1) 0) (ltb (c .rows) (param q 1)) f));
+  }
+
+  margin-home : (o : Bool) (top bottom : ℕ) → Scrolls (c .rows) top bottom → OnPage (c .rows) (cond o top 1) 1 × OriginHeld o top bottom (cond o top 1)
+  margin-home true top bottom m =
+      (record { row-low = m .low; row-high = omega arith; column-low = omega arith; column-high = omega arith }, record { low = λ h. omega arith; high = λ h. omega arith })
+  margin-home false top bottom m = (home-on (c .rows) (p .count), origin-off _ _ _)
+
+  good-margins : (q : Params) → WrapOf c → Good (c .rows) t (setMargins c q)
+  good-margins q h =
+      either (Good (c .rows) t) (marginsTaken c q)
+      (λ e.
+      let m = asked-scrolls q e in
+      let f = margin-home (c .modes .origin) (askedMargins c q .top) (askedMargins c q .bottom) m in
+      good-quiet (withCursor (withMargins c (askedMargins c q)) (place (cond (c .modes .origin) (askedMargins c q .top) 1) 1)) t
+      (record { size = p .size; count = p .count; cursor = f .0; margins = m; origin = f .1; saved = p .saved; parser = p .parser })
+      (λ _. no-wrap 1 (c .modes .autowrap)))
+      (λ e. good-same c t p h)
+
+-- wrap due is cleared by the policy
+good-soft-reset : (c : Core) → Parts c → Good (c .rows) true (quiet (softReset c))
+unfolding softReset freshCore
+good-soft-reset c p =
+    let n = p .count in
+    good-quiet (softReset c) true
+    (record { size = p .size; count = n; cursor = p .cursor; margins = full (c .rows) n; origin = origin-off _ _ _; saved = saved-home (c .rows) n; parser = p .parser })
+    (λ e. absurd (false≢true (sym e)))
+
+-- ---- modes
+
+-- a core of r rows, whole but for wrap due
+record Even (r : ℕ) (d : Core) : Type 0 where
+  rows : d .rows ≡ r
+  parts : Parts d
+
+folded-keeps : (P : Core → Type 0) (f : Core → ℕ → Core) → ((d : Core) (v : ℕ) → P d → P (f d v)) → (d : Core) (vs : List ℕ) → P d → P (folded f d vs)
+folded-keeps P f step d [] h = h
+folded-keeps P f step d (v ∷ vs) h = folded-keeps P f step (f d v) vs (step d v h)
+
+ansi-even : (r : ℕ) (on : Bool) (d : Core) (v : ℕ) → Even r d → Even r (ansiMode on d v)
+ansi-even r on d v s =
+    either (Even r) (eqb v 4) (λ e. record { rows = s .rows; parts = s .parts })
+    (λ _. either (Even r) (eqb v 20) (λ e. record { rows = s .rows; parts = s .parts }) (λ _. s))
+
+ansi-wrap : (on : Bool) (d : Core) (v : ℕ) → WrapOf d → WrapOf (ansiMode on d v)
+ansi-wrap on d v h = either WrapOf (eqb v 4) (λ e. h) (λ _. either WrapOf (eqb v 20) (λ e. h) (λ _. h))
+
+origin-parts : (on : Bool) (d : Core) → Parts d → Parts (originMode on d)
+origin-parts on d p =
+    let f = margin-home d on p on (d .margins .top) (d .margins .bottom) (p .margins) in
+    record { size = p .size; count = p .count; cursor = f .0; margins = p .margins; origin = f .1; saved = p .saved; parser = p .parser }
+
+dec-even : (r : ℕ) (on : Bool) (d : Core) (v : ℕ) → Even r d → Even r (decMode on d v)
+dec-even r on d v s =
+    either (Even r) (eqb v 6) (λ e. record { rows = s .rows; parts = origin-parts on d (s .parts) })
+    (λ _. either (Even r) (eqb v 7) (λ e. record { rows = s .rows; parts = s .parts })
+    (λ _. either (Even r) (eqb v 25) (λ e. record { rows = s .rows; parts = s .parts }) (λ _. s)))
+
+-- setting a mode keeps wrap due held
+set-wrap : (d : Core) (v : ℕ) → WrapOf d → WrapOf (decMode true d v)
+set-wrap d v h =
+    either WrapOf (eqb v 6) (λ e. no-wrap 1 (d .modes .autowrap))
+    (λ _. either WrapOf (eqb v 7) (λ e. record { column = h .column; mode = λ _. refl })
+    (λ _. either WrapOf (eqb v 25) (λ e. h) (λ _. h)))
+
+-- resetting one does, unless it is autowrap
+reset-wrap : (d : Core) (v : ℕ) → eqb v 7 ≡ false → WrapOf d → WrapOf (decMode false d v)
+reset-wrap d v n h =
+    either WrapOf (eqb v 6) (λ e. no-wrap 1 (d .modes .autowrap))
+    (λ _. either WrapOf (eqb v 7) (λ e. absurd (false≢true (sym n ∙ e)))
+    (λ _. either WrapOf (eqb v 25) (λ e. h) (λ _. h)))
+
+resets-wrap : (d : Core) (vs : List ℕ) → member 7 vs ≡ false → WrapOf d → WrapOf (folded (decMode false) d vs)
+resets-wrap d [] n h = h
+resets-wrap d (v ∷ vs) n h =
+    let other : eqb v 7 ≡ false = let m = eqb-false 7 v (or-left (eqb 7 v) (member 7 vs) n) in ne-eqb v 7 (λ e. m (sym e)) in
+    resets-wrap (decMode false d v) vs (or-right (eqb 7 v) (member 7 vs) n) (reset-wrap d v other h)
+
+module _ (c : Core) (p : Parts c) (h : WrapOf c) where
+  even : Even (c .rows) c
+  even = record { rows = refl; parts = p }
+
+  good-ansi : (t on : Bool) (q : Params) → Good (c .rows) t (ansiModes on c q)
+  good-ansi t on q =
+      let s = folded-keeps (Even (c .rows)) (ansiMode on) (ansi-even (c .rows) on) c (paramList q) even in
+      record { rows = s .rows; parts = s .parts; wrap = λ e. folded-keeps WrapOf (ansiMode on) (ansi-wrap on) c (paramList q) h; first = tt; second = tt }
+
+  good-dec : (t on : Bool) (q : Params) → (t ≡ false → WrapOf (folded (decMode on) c (paramList q))) → Good (c .rows) t (decModes on c q)
+  good-dec t on q w =
+      let s = folded-keeps (Even (c .rows)) (decMode on) (dec-even (c .rows) on) c (paramList q) even in
+      record { rows = s .rows; parts = s .parts; wrap = w; first = tt; second = tt }
+
+  -- ---- the sequences
+
+  good-plain : (t : Bool) (q : Params) (last : ℕ) → Good (c .rows) t (plainSequence c q last)
+  good-plain t q last =
+      let G = Good (c .rows) t in
+      either G (eqb last 0x40) (λ e. good-cells c t p h _ (cells-fit c t p h q))
+      (λ _. either G (eqb last 0x41) (λ e. good-up c t p q)
+      (λ _. either G (eqb last 0x42) (λ e. good-down c t p q)
+      (λ _. either G (eqb last 0x43) (λ e. good-right c t p q)
+      (λ _. either G (eqb last 0x44) (λ e. good-left c t p q)
+      (λ _. either G (eqb last 0x48) (λ e. good-position c t p q)
+      (λ _. either G (eqb last 0x4A) (λ e. good-page c t p h (param q 0) toBlank (λ a z f. f))
+      (λ _. either G (eqb last 0x4B) (λ e. good-row c t p h (param q 0) toBlank (λ a z f. f))
+      (λ _. either G (eqb last 0x4C) (λ e. good-lines c t p h _ (lines-fit c t p h q))
+      (λ _. either G (eqb last 0x4D) (λ e. good-lines c t p h _ (lines-fit c t p h q))
+      (λ _. either G (eqb last 0x50) (λ e. good-cells c t p h _ (cells-fit c t p h q))
+      (λ _. either G (eqb last 0x58) (λ e. good-erase-characters c t p h q)
+      (λ _. either G (eqb last 0x66) (λ e. good-position c t p q)
+      (λ _. either G (eqb last 0x67) (λ e. good-clear-tabs c t p h q)
+      (λ _. either G (eqb last 0x68) (λ e. good-ansi t true q)
+      (λ _. either G (eqb last 0x6C) (λ e. good-ansi t false q)
+      (λ _. either G (eqb last 0x6D) (λ e. good-quiet (withRendition c (folded rendered (c .rendition) (paramList q))) t p (λ _. h))
+      (λ _. either G (eqb last 0x72) (λ e. good-margins c t p q h)
+      (λ _. good-same c t p h))))))))))))))))))
+
+  -- here the policy has to clear wrap due where autowrap is reset
+  good-marked : (q : Params) (last : ℕ) → Good (c .rows) (markedClears q last) (markedSequence c q last)
+  good-marked q last =
+      let G : ℕ → Type 0 = λ n. Good (c .rows) (markedClears q n) (markedSequence c q n) in
+      at-number G last 0x4A (good-page c (leb (param q 0) 2) p h (param q 0) toSpace (λ a z f. f))
+      (λ n1. at-number G last 0x4B (good-row c (leb (param q 0) 2) p h (param q 0) toSpace (λ a z f. f))
+      (λ n2. at-number G last 0x68 (good-dec (member 6 (paramList q)) true q (λ e. folded-keeps WrapOf (decMode true) set-wrap c (paramList q) h))
+      (λ n3. at-number G last 0x6C (good-dec (member 6 (paramList q) || member 7 (paramList q)) false q (λ e. resets-wrap c (paramList q) (or-right (member 6 (paramList q)) (member 7 (paramList q)) e) h))
+      (λ n4. rw (ne-eqb last 0x4A n1, ne-eqb last 0x4B n2, ne-eqb last 0x68 n3, ne-eqb last 0x6C n4) (good-same c _ p h)))))
+
+  families : (q : Params) (last : ℕ) (i j k l : Bool)
+      → Good (c .rows) (cond i (plainClears c q last) (cond j (markedClears q last) l))
+      (cond i (plainSequence c q last) (cond j (markedSequence c q last) (cond k (selectProtection c q) (cond l (quiet (softReset c)) (quiet c)))))
+  families q last true j k l = good-plain (plainClears c q last) q last
+  families q last false true k l = good-marked q last
+  families q last false false true l = good-protection c l p h q
+  families q last false false false true = good-soft-reset c p
+  families q last false false false false = good-same c false p h
+
+  pub good-sequenced : (q : Params) (mark first second last : ℕ)
+      → Good (c .rows) (cond (isPlain mark first second) (plainClears c q last) (cond (isMarked mark first second) (markedClears q last) (isSoftReset mark first second last)))
+      (sequenced c q mark first second last)
+  unfolding sequenced
+  good-sequenced q mark first second last = families q last (isPlain mark first second) (isMarked mark first second) (isProtection mark first second last) (isSoftReset mark first second last)
