@@ -1,4 +1,5 @@
 pub mod Lists
+pub mod Writing
 pub mod WordLaws
 pub mod BitLaws
 pub mod Parts

@@ -1,14 +1,20 @@
--- What the functions that write a page promise: of a few words, of rows, of an edit.
+-- What the functions that write promise: of bytes in a buffer, and in a page of a few words, of rows, of an edit.
 use mathlib.Core.Bool.{Bool, true, cond}
 use mathlib.Core.List.{List}
 use mathlib.Core.Path.{_≡_}
-use Prim.Native.Nat.{ℕ, _*_, _≤_}
+use Prim.Native.Nat.{ℕ, _+_, _*_, _≤_}
 use lib.ListN.{length, take, drop}
-use lib.Seq.{paste}
+use lib.Seq.{paste, sets}
 use Rattle.cells.specs.declared.Edit.{Edit}
 use Rattle.cells.specs.Rows.{row, differs}
 use Rattle.cells.specs.Sets.{bitsOf, changed}
 use Rattle.cells.specs.Edits.{after, applied, Within}
+
+-- these bytes were written from `at` on, up to `next`, and nothing else
+pub record Wrote (before : List ℕ) (at : ℕ) (bytes : List ℕ) (later : List ℕ) (next : ℕ) : Type 0 where
+  pub is : later ≡ sets before at bytes
+  pub ends : next ≡ at + length bytes
+  pub long : length later ≡ length before
 
 -- q is p with its n words from place `at` replaced by the first n of s, and the flag says whether one of them is another word
 pub record Pasted (p q : List ℕ) (at : ℕ) (s : List ℕ) (n : ℕ) (flag : Bool) : Type 0 where

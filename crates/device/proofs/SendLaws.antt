@@ -1,61 +1,44 @@
--- Writing bytes one run after the other, and how long a reply is.
-use mathlib.Core.Path.{_≡_, refl, sym, ap, ap₂, _∙_, subst}
+-- Writing a text byte by byte, and how long a reply is.
+use mathlib.Core.Path.{_≡_, refl, sym, ap, _∙_, subst}
 use mathlib.Core.Bool.{Bool, true, false, cond}
 use mathlib.Core.List.{List, [], _∷_, _++_}
-use Prim.Native.Nat.{ℕ, suc, _+_, _-_, _≤_, _<_}
-use native.Mathlib.Nat.{add-zero, add-suc, suc-add, add-assoc}
+use Prim.Native.Nat.{ℕ, _+_, _-_, _≤_, _<_}
+use native.Mathlib.Nat.{add-assoc}
 use native.Mathlib.Numerals.{add-one}
 use native.Mathlib.Omega.{arith}
 use lib.Dec.{ltb}
 use lib.ListN.{length, getD, take, set, length-set, length-append}
-use lib.Seq.{sets, take-suc, take-all}
+use lib.Seq.{take-suc, take-all}
 use denote.Enum.Declared.{tagOf}
 use types.Run.{OneOf, miss}
 use Rattle.device.specs.declared.sending.Reply.{Reply}
 use Rattle.device.specs.declared.sending.Reply.the-variants.{Silent, PrimaryAttributes, SecondaryAttributes, Status, Position, ExtendedPosition, Printer}
-use Rattle.device.specs.ReplyBytes.{Sent, decimal, csi, bodyOf, replyBytes, longestReply}
+use Rattle.device.specs.ReplyBytes.{decimal, csi, bodyOf, replyBytes, longestReply}
+use Rattle.cells.specs.Writes.{Wrote}
+use Rattle.cells.proofs.Writing.{wrote-more}
 use Rattle.device.proofs.sending.Reply as reply
-
--- ---- one run after the other
-
-sets-append : (xs ys l : List ℕ) (i : ℕ) → sets l i (xs ++ ys) ≡ sets (sets l i xs) (i + length xs) ys
-sets-append [] ys l i = ap (λ (k : ℕ). sets l k ys) (sym (add-zero i))
-sets-append (x ∷ xs) ys l i =
-    sets-append xs ys (set l i x) (suc i)
-    ∙ ap (λ (k : ℕ). sets (sets (set l i x) (suc i) xs) k ys) (suc-add i (length xs) ∙ sym (add-suc i (length xs)))
-
-pub sent-none : (o : List ℕ) (at : ℕ) → Sent o at [] o at
-sent-none o at = record { is = refl; ends = sym (add-zero at); long = refl }
-
-pub sent-byte : (o : List ℕ) (at b : ℕ) → Sent o at (b ∷ []) (set o at b) (at + 1)
-sent-byte o at b = record { is = refl; ends = refl; long = length-set o at b }
-
-pub sent-more : {o : List ℕ} {at : ℕ} {xs : List ℕ} {o1 : List ℕ} {n1 : ℕ} {ys : List ℕ} {o2 : List ℕ} {n2 : ℕ}
-    → Sent o at xs o1 n1 → Sent o1 n1 ys o2 n2 → Sent o at (xs ++ ys) o2 n2
-sent-more {o} {at} {xs} {o1} {n1} {ys} {o2} {n2} a b = record {
-  is = b .is ∙ ap₂ (λ (l : List ℕ) (k : ℕ). sets l k ys) (a .is) (a .ends) ∙ sym (sets-append xs ys o at);
-  ends = b .ends ∙ ap (λ (k : ℕ). k + length ys) (a .ends) ∙ add-assoc at (length xs) (length ys) ∙ ap (λ (k : ℕ). at + k) (sym (length-append xs ys));
-  long = b .long ∙ a .long;
-}
 
 -- ---- a text, byte by byte
 
-pub text-none : (o : List ℕ) (at : ℕ) (text : List ℕ) → Sent o at (take 0 text) o (at + 0)
+pub wrote-byte : (o : List ℕ) (at b : ℕ) → Wrote o at (b ∷ []) (set o at b) (at + 1)
+wrote-byte o at b = record { is = refl; ends = refl; long = length-set o at b }
+
+pub text-none : (o : List ℕ) (at : ℕ) (text : List ℕ) → Wrote o at (take 0 text) o (at + 0)
 text-none o at text = record { is = refl; ends = refl; long = refl }
 
 pub text-more : (o : List ℕ) (at : ℕ) (text out : List ℕ) (i : ℕ) → i < length text
-    → Sent o at (take i text) out (at + i)
-    → Sent o at (take (i + 1) text) (set out (at + i) (getD text i 0)) (at + (i + 1))
+    → Wrote o at (take i text) out (at + i)
+    → Wrote o at (take (i + 1) text) (set out (at + i) (getD text i 0)) (at + (i + 1))
 text-more o at text out i h a =
-    subst (λ (xs : List ℕ). Sent o at xs (set out (at + i) (getD text i 0)) (at + (i + 1)))
+    subst (λ (xs : List ℕ). Wrote o at xs (set out (at + i) (getD text i 0)) (at + (i + 1)))
     (sym (ap (λ (n : ℕ). take n text) (add-one i) ∙ take-suc text i 0 h))
-    (subst (λ (n : ℕ). Sent o at (take i text ++ (getD text i 0 ∷ [])) (set out (at + i) (getD text i 0)) n)
+    (subst (λ (n : ℕ). Wrote o at (take i text ++ (getD text i 0 ∷ [])) (set out (at + i) (getD text i 0)) n)
     (add-assoc at i 1)
-    (sent-more a (sent-byte out (at + i) (getD text i 0))))
+    (wrote-more a (wrote-byte out (at + i) (getD text i 0))))
 
 pub text-all : (o : List ℕ) (at : ℕ) (text out : List ℕ) (i : ℕ) → length text ≤ i
-    → Sent o at (take i text) out (at + i) → Sent o at text out (at + i)
-text-all o at text out i h a = subst (λ (xs : List ℕ). Sent o at xs out (at + i)) (take-all i text h) a
+    → Wrote o at (take i text) out (at + i) → Wrote o at text out (at + i)
+text-all o at text out i h a = subst (λ (xs : List ℕ). Wrote o at xs out (at + i)) (take-all i text h) a
 
 -- ---- every reply but none is CSI and a body
 

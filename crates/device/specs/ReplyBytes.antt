@@ -1,11 +1,8 @@
 -- The bytes of each reply (document 01, "Replies").
-use mathlib.Core.Path.{_≡_}
 use mathlib.Core.Bool.{Bool, true, false, cond}
 use mathlib.Core.List.{List, [], _∷_, _++_}
 use Prim.Native.Nat.{ℕ, _+_, _/_, _%_}
 use lib.Dec.{ltb}
-use lib.ListN.{length}
-use lib.Seq.{sets}
 use Rattle.device.specs.declared.sending.Reply.{Reply}
 use Rattle.device.specs.declared.sending.Reply.the-variants.{Silent, PrimaryAttributes, SecondaryAttributes, Status, Position, ExtendedPosition, Printer}
 
@@ -40,9 +37,3 @@ replyBytes eightbit Printer = csi eightbit ++ bodyOf Printer
 -- the longest
 abbrev pub longestReply : ℕ
 longestReply = 11
-
--- these bytes were written from `at` on, up to `next`, and nothing else
-pub record Sent (before : List ℕ) (at : ℕ) (bytes : List ℕ) (later : List ℕ) (next : ℕ) : Type 0 where
-  pub is : later ≡ sets before at bytes
-  pub ends : next ≡ at + length bytes
-  pub long : length later ≡ length before

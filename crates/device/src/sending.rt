@@ -6,7 +6,8 @@ ghost use mathlib.Core.List.{List, [], _∷_, _++_};
 ghost use Prim.Native.Nat.{_+_, _≤_};
 ghost use lib.ListN.{length};
 ghost use Rattle.device.specs.declared.sending.Reply.the-variants.{Position, ExtendedPosition};
-ghost use Rattle.device.specs.ReplyBytes.{decimal, csi, bodyOf, replyBytes, Sent};
+ghost use Rattle.device.specs.ReplyBytes.{decimal, csi, bodyOf, replyBytes};
+ghost use Rattle.cells.specs.Writes.{Wrote};
 
 // ---- the replies
 
@@ -68,7 +69,7 @@ pub fn reply_len(eightbit: bool, reply: Reply) -> usize
 
 fn send_byte(out: &mut [u8], at: usize, byte: u8) -> usize
     requires { ⌜ at + 1 ≤ length (now out) ⌝ }
-    ensures { λ r. ⌜ Sent (now (out .entry)) at (byte ∷ []) (now (out .exit)) r ⌝ }
+    ensures { λ r. ⌜ Wrote (now (out .entry)) at (byte ∷ []) (now (out .exit)) r ⌝ }
 {
     out[at] = byte;
     at + 1
@@ -76,7 +77,7 @@ fn send_byte(out: &mut [u8], at: usize, byte: u8) -> usize
 
 fn send_text(out: &mut [u8], at: usize, text: &[u8]) -> usize
     requires { ⌜ at + length (now text) ≤ length (now out) ⌝ }
-    ensures { λ r. ⌜ Sent (now (out .entry)) at (now (text .entry)) (now (out .exit)) r ⌝ }
+    ensures { λ r. ⌜ Wrote (now (out .entry)) at (now (text .entry)) (now (out .exit)) r ⌝ }
 {
     let mut i = 0;
     while i < text.len() {
@@ -89,7 +90,7 @@ fn send_text(out: &mut [u8], at: usize, text: &[u8]) -> usize
 // CSI as one byte or as two.
 fn send_csi(out: &mut [u8], at: usize, eightbit: bool) -> usize
     requires { ⌜ at + length (csi eightbit) ≤ length (now out) ⌝ }
-    ensures { λ r. ⌜ Sent (now (out .entry)) at (csi eightbit) (now (out .exit)) r ⌝ }
+    ensures { λ r. ⌜ Wrote (now (out .entry)) at (csi eightbit) (now (out .exit)) r ⌝ }
 {
     if eightbit {
         return send_byte(out, at, 0x9B);
@@ -100,7 +101,7 @@ fn send_csi(out: &mut [u8], at: usize, eightbit: bool) -> usize
 // A number below 100, in decimal.
 fn send_number(out: &mut [u8], at: usize, n: u8) -> usize
     requires { ⌜ at + length (decimal n) ≤ length (now out) ⌝ }
-    ensures { λ r. ⌜ Sent (now (out .entry)) at (decimal n) (now (out .exit)) r ⌝ }
+    ensures { λ r. ⌜ Wrote (now (out .entry)) at (decimal n) (now (out .exit)) r ⌝ }
 {
     if n < 10 {
         return send_byte(out, at, 0x30 + n);
@@ -112,7 +113,7 @@ fn send_number(out: &mut [u8], at: usize, n: u8) -> usize
 // Row and column with 3B between.
 fn send_place(out: &mut [u8], at: usize, row: u8, column: u8) -> usize
     requires { ⌜ at + length (decimal row ++ (0x3B ∷ []) ++ decimal column) ≤ length (now out) ⌝ }
-    ensures { λ r. ⌜ Sent (now (out .entry)) at (decimal row ++ (0x3B ∷ []) ++ decimal column) (now (out .exit)) r ⌝ }
+    ensures { λ r. ⌜ Wrote (now (out .entry)) at (decimal row ++ (0x3B ∷ []) ++ decimal column) (now (out .exit)) r ⌝ }
 {
     let separator = send_number(out, at, row);
     let second = send_byte(out, separator, 0x3B);
@@ -122,7 +123,7 @@ fn send_place(out: &mut [u8], at: usize, row: u8, column: u8) -> usize
 // CPR.
 fn send_position(out: &mut [u8], at: usize, row: u8, column: u8) -> usize
     requires { ⌜ at + length (bodyOf (Position row column)) ≤ length (now out) ⌝ }
-    ensures { λ r. ⌜ Sent (now (out .entry)) at (bodyOf (Position row column)) (now (out .exit)) r ⌝ }
+    ensures { λ r. ⌜ Wrote (now (out .entry)) at (bodyOf (Position row column)) (now (out .exit)) r ⌝ }
 {
     let last = send_place(out, at, row, column);
     send_byte(out, last, 0x52)
@@ -131,7 +132,7 @@ fn send_position(out: &mut [u8], at: usize, row: u8, column: u8) -> usize
 // DECXCPR.
 fn send_extended(out: &mut [u8], at: usize, row: u8, column: u8) -> usize
     requires { ⌜ at + length (bodyOf (ExtendedPosition row column)) ≤ length (now out) ⌝ }
-    ensures { λ r. ⌜ Sent (now (out .entry)) at (bodyOf (ExtendedPosition row column)) (now (out .exit)) r ⌝ }
+    ensures { λ r. ⌜ Wrote (now (out .entry)) at (bodyOf (ExtendedPosition row column)) (now (out .exit)) r ⌝ }
 {
     let first = send_byte(out, at, 0x3F);
     let last = send_place(out, first, row, column);
@@ -141,7 +142,7 @@ fn send_extended(out: &mut [u8], at: usize, row: u8, column: u8) -> usize
 // What follows CSI.
 fn send_body(reply: Reply, out: &mut [u8], at: usize) -> usize
     requires { ⌜ at + length (bodyOf reply) ≤ length (now out) ⌝ }
-    ensures { λ r. ⌜ Sent (now (out .entry)) at (bodyOf reply) (now (out .exit)) r ⌝ }
+    ensures { λ r. ⌜ Wrote (now (out .entry)) at (bodyOf reply) (now (out .exit)) r ⌝ }
 {
     match reply {
         Reply::Silent => at,
@@ -156,7 +157,7 @@ fn send_body(reply: Reply, out: &mut [u8], at: usize) -> usize
 
 pub fn send(eightbit: bool, reply: Reply, out: &mut [u8], at: usize) -> usize
     requires { ⌜ at + length (replyBytes eightbit reply) ≤ length (now out) ⌝ }
-    ensures { λ r. ⌜ Sent (now (out .entry)) at (replyBytes eightbit reply) (now (out .exit)) r ⌝ }
+    ensures { λ r. ⌜ Wrote (now (out .entry)) at (replyBytes eightbit reply) (now (out .exit)) r ⌝ }
 {
     match reply {
         Reply::Silent => at,

@@ -20,8 +20,8 @@ use Rattle.vt.specs.declared.core.Core.{Core}
 use Rattle.vt.specs.declared.core.Decision.{Decision}
 use Rattle.vt.specs.Whole.{Whole}
 use Rattle.dispatch.specs.Decide.{decided, sends}
-use Rattle.device.specs.ReplyBytes.{Sent}
-use Rattle.device.proofs.SendLaws.{sent-none, sent-more}
+use Rattle.cells.specs.Writes.{Wrote}
+use Rattle.cells.proofs.Writing.{wrote-none, wrote-more}
 use Rattle.sound.proofs.SoundParts.{Sound}
 use Rattle.sound.proofs.Sound.{decided-sound}
 use Rattle.terminal.specs.declared.State.{State}
@@ -80,7 +80,7 @@ step-is s b p q1 q2 x m1 m2 k ex e1 f1 e2 f2 =
 pub record Running (s₀ : State) (p₀ input o₀ : List ℕ) (i : ℕ) (s : State) (p o : List ℕ) (n : ℕ) : Type 0 where
   pub within : i ≤ length input
   pub screen-is : screen s p ≡ ran (screen s₀ p₀) (take i input)
-  pub sending : Sent o₀ 0 (sent (s₀ .core) (take i input)) o n
+  pub sending : Wrote o₀ 0 (sent (s₀ .core) (take i input)) o n
   pub room : n ≤ length o₀
   pub left : readable (length o₀) (s₀ .core) input ≡ i + readable (length o₀ - n) (s .core) (drop i input)
   pub ready : Ready s p
@@ -91,7 +91,7 @@ unfolding ran sent
 running-none s p input o r = record {
   within = zero-le;
   screen-is = refl;
-  sending = sent-none o 0;
+  sending = wrote-none o 0;
   room = zero-le;
   left = ap (λ (n : ℕ). readable n (s .core) input) (omega arith) ∙ sym (zero-add (readable (length o - 0) (s .core) input));
   ready = r;
@@ -140,7 +140,7 @@ module _ {s₀ : State} {p₀ input o₀ : List ℕ} {i : ℕ} {s : State} {p o 
         ∙ ap (λ (l : List ℕ). sent (s₀ .core) (take i input) ++ l) (append-nil (sends (ranCore (s₀ .core) (take i input)) b) ∙ ap (λ (c : Core). sends c b) (sym core-is))
 
     pub running-more : length (sends (s .core) b) ≤ length o₀ - n → (s' : State) (p' o' : List ℕ) (n' : ℕ)
-        → Sent o n (sends (s .core) b) o' n' → screen s' p' ≡ stepped (screen s p) b → length p' ≡ length p
+        → Wrote o n (sends (s .core) b) o' n' → screen s' p' ≡ stepped (screen s p) b → length p' ≡ length p
         → Running s₀ p₀ input o₀ (i + 1) s' p' o' n'
     unfolding ran
     running-more fits s' p' o' n' S ed el =
@@ -152,7 +152,7 @@ module _ {s₀ : State} {p₀ input o₀ : List ℕ} {i : ℕ} {s : State} {p o 
         record {
           within = omega arith;
           screen-is = ed ∙ ap (λ (d : Screen). stepped d b) (R .screen-is) ∙ sym (ran-append (screen s₀ p₀) (take i input) (b ∷ [])) ∙ ap (ran (screen s₀ p₀)) (sym taken);
-          sending = subst (λ (l : List ℕ). Sent o₀ 0 l o' n') (sym sent-next) (sent-more (R .sending) S);
+          sending = subst (λ (l : List ℕ). Wrote o₀ 0 l o' n') (sym sent-next) (wrote-more (R .sending) S);
           room = omega arith;
           left = R .left ∙ ap (λ (l : List ℕ). i + readable (length o₀ - n) (s .core) l) rest
               ∙ ap (λ (m : ℕ). i + m) (readable-fits (length o₀ - n) (s .core) b (drop (i + 1) input) fits)

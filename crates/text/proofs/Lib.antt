@@ -1,5 +1,4 @@
 pub mod Examples
-pub mod Writing
 pub mod Trimming
 pub mod Encoding
 pub mod TextLaws

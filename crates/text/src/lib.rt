@@ -10,7 +10,7 @@ ghost use Prim.Native.Nat.{_+_, _*_, _≤_};
 ghost use lib.ListN.{length};
 ghost use Rattle.cells.specs.Rows.{row};
 ghost use Rattle.text.specs.Text.{pageText, written};
-ghost use Rattle.text.specs.Writes.{Wrote};
+ghost use Rattle.cells.specs.Writes.{Wrote};
 
 // What writing a page as text answers.
 pub enum Written {

@@ -8,7 +8,7 @@ ghost use mathlib.Core.Path.{_≡_};
 ghost use Prim.Native.Nat.{_+_, _≤_};
 ghost use lib.ListN.{length};
 ghost use Rattle.text.specs.Text.{sign, trimmed, encoded, line};
-ghost use Rattle.text.specs.Writes.{Wrote};
+ghost use Rattle.cells.specs.Writes.{Wrote};
 
 // How many cells of a row are left without the spaces at its end.
 fn trimmed_len(row: &[u16]) -> usize

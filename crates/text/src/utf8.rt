@@ -4,7 +4,7 @@ ghost use mathlib.Core.Path.{_≡_};
 ghost use Prim.Native.Nat.{_+_, _≤_};
 ghost use lib.ListN.{length};
 ghost use Rattle.text.specs.Text.{utf8};
-ghost use Rattle.text.specs.Writes.{Wrote};
+ghost use Rattle.cells.specs.Writes.{Wrote};
 
 // How many bytes a code point takes.
 pub fn utf8_len(code: u16) -> usize

@@ -8,7 +8,7 @@ use crate::effects::without_shift;
 use cells::Cell;
 use cells::CharSet;
 use cells::Edit;
-use cells::Rendition;
+use cells::words::pack;
 use device::charsets::Sets;
 use device::charsets::SingleShift;
 use device::charsets::has_96;
@@ -18,50 +18,12 @@ ghost use mathlib.Core.Bool.{Bool, cond};
 ghost use Prim.Native.Nat.{_-_, _≤_};
 ghost use lib.Dec.{eqb, ltb};
 ghost use Rattle.cells.specs.declared.Edit.the-variants.{Keep, Put, InsertCells, ScrollUp};
-ghost use Rattle.cells.specs.Cells.{setNumber, bit, renditionBits, packed};
 ghost use Rattle.vt.specs.Bounds.{Bounds};
 ghost use Rattle.device.specs.Charsets.{leftSet, rightSet};
 ghost use Rattle.vt.specs.Strokes.{stroke};
 ghost use Rattle.vt.specs.Printing as printing;
 
 // ---- the cell
-
-fn set_number(set: CharSet) -> u16
-    ensures { λ r. ⌜ r ≡ setNumber set ⌝ }
-{
-    match set {
-        CharSet::Ascii => 0,
-        CharSet::SpecialGraphics => 1,
-        CharSet::Supplemental => 2,
-        CharSet::Latin1 => 3,
-    }
-}
-
-fn bit_of(flag: bool) -> u16
-    ensures { λ r. ⌜ r ≡ bit flag ⌝ }
-{
-    if flag { 1 } else { 0 }
-}
-
-fn rendition_bits(rendition: Rendition) -> u16
-    ensures { λ r. ⌜ r ≡ renditionBits rendition ⌝ }
-{
-    bit_of(rendition.bold)
-        + 2 * bit_of(rendition.underline)
-        + 4 * bit_of(rendition.blink)
-        + 8 * bit_of(rendition.reverse)
-}
-
-pub fn pack(cell: Cell) -> u16
-    ensures { λ r. ⌜ r ≡ packed cell ⌝ }
-{
-    let set = cell.set;
-    let rendition = cell.rendition;
-    (cell.code % 128) as u16
-        + 128 * set_number(set)
-        + 512 * rendition_bits(rendition)
-        + 8192 * bit_of(cell.protected)
-}
 
 // The cell takes code, set, rendition and protection.
 fn cell_word(core: Core, code: u8, set: CharSet) -> u16

@@ -3,7 +3,8 @@ use native.Mathlib.Omega.{arith}
 use borrow.Author.Needs.{needs}
 use lib.ListN.{length-append}
 use Rattle.device.specs.ReplyBytes.{replyBytes}
-use Rattle.device.proofs.SendLaws.{sent-none, sent-more, reply-is}
+use Rattle.cells.proofs.Writing.{wrote-none, wrote-more}
+use Rattle.device.proofs.SendLaws.{reply-is}
 use Rattle.device.proofs.sending.send.Statement.{statement}
 use Rattle.device.proofs.sending.send.Tie as tie
 
@@ -22,13 +23,13 @@ send-body-requires c κs =
 
 returns : tie.Need-returns
 unfolding replyBytes
-returns c = rw (c .enum-told .given .1) (sent-none _ _)
+returns c = rw (c .enum-told .given .1) (wrote-none _ _)
 
 same-length : tie.Need-same-length
 same-length c = search needs
 
 returns-2 : tie.Need-returns-2
-returns-2 c = rw (← reply-is (c .before .before .before .before .before .before .before .before .before .before .args .eightbit) (c .before .before .before .before .before .before .before .before .before .before .args .reply) (c .before .before .before .before .before .before .before .before .match .keys2)) (sent-more (c .before .before .before .before .before .before .send-csi .ensures) (c .before .before .send-body .ensures))
+returns-2 c = rw (← reply-is (c .before .before .before .before .before .before .before .before .before .before .args .eightbit) (c .before .before .before .before .before .before .before .before .before .before .args .reply) (c .before .before .before .before .before .before .before .before .match .keys2)) (wrote-more (c .before .before .before .before .before .before .send-csi .ensures) (c .before .before .send-body .ensures))
 
 pub send-spec : {M : Type 1} → statement M
 send-spec =

@@ -1,6 +1,6 @@
 -- Each arm writes the definition's clause for that reply.
 use borrow.Author.Needs.{needs}
-use Rattle.device.proofs.SendLaws.{sent-none}
+use Rattle.cells.proofs.Writing.{wrote-none}
 use Rattle.device.proofs.sending.send_body.Statement.{statement}
 use Rattle.device.proofs.sending.send_body.Tie as tie
 
@@ -56,7 +56,7 @@ send-text-requires-4 : tie.Need-send-text-requires-4
 send-text-requires-4 c κs = rw (c .before .before .enum-told5 .given .1) at (c .before .before .before .before .before .pre)
 
 returns : tie.Need-returns
-returns c = rw (c .enum-told .given .1) (sent-none _ _)
+returns c = rw (c .enum-told .given .1) (wrote-none _ _)
 
 same-length : tie.Need-same-length
 same-length c = search needs

@@ -1,7 +1,8 @@
 -- 3F, the place and what closes the report are written one after the other.
 use native.Mathlib.Omega.{arith}
 use borrow.Author.Needs.{needs}
-use Rattle.device.proofs.SendLaws.{sent-more, place-length, extended-length}
+use Rattle.cells.proofs.Writing.{wrote-more}
+use Rattle.device.proofs.SendLaws.{place-length, extended-length}
 use Rattle.device.proofs.sending.send_extended.Statement.{statement}
 use Rattle.device.proofs.sending.send_extended.Tie as tie
 
@@ -22,7 +23,7 @@ same-length : tie.Need-same-length
 same-length c = search needs
 
 returns : tie.Need-returns
-returns c = sent-more (sent-more (c .before .before .before .before .before .before .before .before .before .before .before .send-byte .ensures) (c .before .before .before .before .before .before .before .send-place .ensures)) (c .before .before .send-text .ensures)
+returns c = wrote-more (wrote-more (c .before .before .before .before .before .before .before .before .before .before .before .send-byte .ensures) (c .before .before .before .before .before .before .before .send-place .ensures)) (c .before .before .send-text .ensures)
 
 pub send-extended-spec : {M : Type 1} → statement M
 send-extended-spec =

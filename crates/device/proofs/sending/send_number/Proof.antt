@@ -2,7 +2,7 @@
 use borrow.Author.Tests.{lt-ltb, le-ltb}
 use native.Mathlib.Omega.{arith}
 use borrow.Author.Needs.{needs}
-use Rattle.device.proofs.SendLaws.{sent-more}
+use Rattle.cells.proofs.Writing.{wrote-more}
 use Rattle.device.proofs.sending.send_number.Statement.{statement}
 use Rattle.device.proofs.sending.send_number.Tie as tie
 
@@ -34,7 +34,7 @@ same-length-2 : tie.Need-same-length-2
 same-length-2 c = search needs
 
 returns-2 : tie.Need-returns-2
-returns-2 c = rw (le-ltb _ _ (c .before .before .before .before .before .before .before .before .if1 .left)) (sent-more (c .before .before .before .before .before .before .send-byte2 .ensures) (c .before .before .send-byte3 .ensures))
+returns-2 c = rw (le-ltb _ _ (c .before .before .before .before .before .before .before .before .if1 .left)) (wrote-more (c .before .before .before .before .before .before .send-byte2 .ensures) (c .before .before .send-byte3 .ensures))
 
 pub send-number-spec : {M : Type 1} → statement M
 send-number-spec =

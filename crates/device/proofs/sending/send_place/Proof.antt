@@ -1,7 +1,8 @@
 -- The row, 3B and the column are written one after the other.
 use native.Mathlib.Omega.{arith}
 use borrow.Author.Needs.{needs}
-use Rattle.device.proofs.SendLaws.{sent-more, place-length}
+use Rattle.cells.proofs.Writing.{wrote-more}
+use Rattle.device.proofs.SendLaws.{place-length}
 use Rattle.device.proofs.sending.send_place.Statement.{statement}
 use Rattle.device.proofs.sending.send_place.Tie as tie
 
@@ -18,7 +19,7 @@ same-length : tie.Need-same-length
 same-length c = search needs
 
 returns : tie.Need-returns
-returns c = sent-more (sent-more (c .before .before .before .before .before .before .before .before .before .before .send-number .ensures) (c .before .before .before .before .before .before .send-byte .ensures)) (c .before .before .send-number2 .ensures)
+returns c = wrote-more (wrote-more (c .before .before .before .before .before .before .before .before .before .before .send-number .ensures) (c .before .before .before .before .before .before .send-byte .ensures)) (c .before .before .send-number2 .ensures)
 
 pub send-place-spec : {M : Type 1} → statement M
 send-place-spec =

@@ -1,7 +1,8 @@
 -- The place and 52 are written one after the other.
 use native.Mathlib.Omega.{arith}
 use borrow.Author.Needs.{needs}
-use Rattle.device.proofs.SendLaws.{sent-more, place-length, position-length}
+use Rattle.cells.proofs.Writing.{wrote-more}
+use Rattle.device.proofs.SendLaws.{place-length, position-length}
 use Rattle.device.proofs.sending.send_position.Statement.{statement}
 use Rattle.device.proofs.sending.send_position.Tie as tie
 
@@ -15,7 +16,7 @@ same-length : tie.Need-same-length
 same-length c = search needs
 
 returns : tie.Need-returns
-returns c = sent-more (c .before .before .before .before .before .before .send-place .ensures) (c .before .before .send-byte .ensures)
+returns c = wrote-more (c .before .before .before .before .before .before .send-place .ensures) (c .before .before .send-byte .ensures)
 
 pub send-position-spec : {M : Type 1} → statement M
 send-position-spec =

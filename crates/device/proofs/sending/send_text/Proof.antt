@@ -3,13 +3,13 @@ use native.Mathlib.Omega.{arith}
 use borrow.Author.Needs.{needs}
 use Prim.Native.Nat.{_+_, _-_, _≤_}
 use lib.ListN.{length, take}
-use Rattle.device.specs.ReplyBytes.{Sent}
+use Rattle.cells.specs.Writes.{Wrote}
 use Rattle.device.proofs.SendLaws.{text-none, text-more, text-all}
 use Rattle.device.proofs.sending.send_text.Statement.{statement}
 use Rattle.device.proofs.sending.send_text.Tie as tie
 
 abbrev Inv-loop : tie.InvT-loop
-Inv-loop out₀ at text i₀ out i = (i ≤ length text) × Sent out₀ at (take i text) out (at + i)
+Inv-loop out₀ at text i₀ out i = (i ≤ length text) × Wrote out₀ at (take i text) out (at + i)
 
 abbrev μ-loop : tie.MeasureT-loop
 μ-loop out₀ at text i₀ out i = length text - i

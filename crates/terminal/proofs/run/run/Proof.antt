@@ -7,7 +7,8 @@ use native.Mathlib.Omega.{arith}
 use borrow.Author.Needs.{needs}
 use lib.ListN.{length, getD}
 use Rattle.device.specs.declared.sending.Reply.{Reply}
-use Rattle.device.specs.ReplyBytes.{replyBytes, Sent}
+use Rattle.device.specs.ReplyBytes.{replyBytes}
+use Rattle.cells.specs.Writes.{Wrote}
 use Rattle.dispatch.specs.Decide.{sends}
 use Rattle.terminal.proofs.FeedLoop.{Running, running-none, running-more, running-full, running-done}
 use Rattle.terminal.proofs.run.run.Statement.{statement}
@@ -79,8 +80,8 @@ loop-again c =
     let long = l .loop .inv .sending .long in
     let n : length (replyBytes (l .loop .state .core .modes .eightbit) (kind .reply-for .result)) ≡ length (sends (l .loop .state .core) b) =
     ap (λ (r : Reply). length (replyBytes (l .loop .state .core .modes .eightbit) r)) (kind .reply-for .ensures) in
-    let S : Sent (l .loop .reply) (l .loop .replied) (sends (l .loop .state .core) b) (se .send .last .1 .1 .0) (se .send .result) =
-    subst (λ (r : Reply). Sent (l .loop .reply) (l .loop .replied) (replyBytes (l .loop .state .core .modes .eightbit) r) (se .send .last .1 .1 .0) (se .send .result)) (kind .reply-for .ensures) (se .send .ensures) in
+    let S : Wrote (l .loop .reply) (l .loop .replied) (sends (l .loop .state .core) b) (se .send .last .1 .1 .0) (se .send .result) =
+    subst (λ (r : Reply). Wrote (l .loop .reply) (l .loop .replied) (replyBytes (l .loop .state .core .modes .eightbit) r) (se .send .last .1 .1 .0) (se .send .result)) (kind .reply-for .ensures) (se .send .ensures) in
     running-more (l .loop .inv) (turn .loop-test .taken) b refl (omega (arith, fits .if1 .left, fits .before .reply-len .ensures))
     (st .step .result) (st .step .last .1 .1 .0) (se .send .last .1 .1 .0) (se .send .result) S (st .step .ensures) (st .step .kept .1 .1 .0)
 

@@ -5,7 +5,7 @@ use Prim.Native.Nat.{ℕ, suc, _+_}
 use native.Mathlib.Nat.{add-zero, add-suc, suc-add, add-assoc}
 use lib.ListN.{length, set, length-append}
 use lib.Seq.{sets}
-use Rattle.text.specs.Writes.{Wrote}
+use Rattle.cells.specs.Writes.{Wrote}
 
 sets-append : (xs ys l : List ℕ) (i : ℕ) → sets l i (xs ++ ys) ≡ sets (sets l i xs) (i + length xs) ys
 sets-append [] ys l i = ap (λ (k : ℕ). sets l k ys) (sym (add-zero i))
