@@ -21,7 +21,7 @@ ghost use Rattle.cells.specs.Writes.{Edited, BlockFits, Fits, Applied};
 const BLANK: u16 = 32;
 
 // A word into one cell.
-fn put(page: &mut [u16], row: u8, column: u8, word: u16) -> u64
+pub fn put(page: &mut [u16], row: u8, column: u8, word: u16) -> u64
     requires { ⌜ BlockFits (now page) row (row + 1) column (column + 1) ⌝ }
     ensures { λ r. ⌜ Edited (Put row column word) (now (page .entry)) (now (page .exit)) r ⌝ }
 {
@@ -121,9 +121,8 @@ fn selective_erase(page: &mut [u16], from: u16, to: u16) -> u64
     bits
 }
 
-// Applies an edit to a page of `rows` rows, and hands back the bits of the rows that it changed. Each
-// function goes by the edit's own numbers, so `rows` is there for the promise alone.
-pub fn apply(edit: Edit, page: &mut [u16], rows: u8) -> u64
+// Any edit. Each function goes by the edit's own numbers, so `rows` is there for the promise alone.
+fn change(edit: Edit, page: &mut [u16], rows: u8) -> u64
     requires { ⌜ Fits rows edit (now page) ⌝ }
     ensures { λ r. ⌜ Applied rows edit (now (page .entry)) (now (page .exit)) r ⌝ }
 {
@@ -159,6 +158,18 @@ pub fn apply(edit: Edit, page: &mut [u16], rows: u8) -> u64
         } => scroll_down(page, top, end, left, right, count),
         Edit::Fill { from, to, word } => fill(page, from, to, word),
         Edit::SelectiveErase { from, to } => selective_erase(page, from, to),
+    }
+}
+
+// Applies an edit to a page of `rows` rows, and hands back the bits of the rows that it changed. Most
+// often there is nothing to do.
+pub fn apply(edit: Edit, page: &mut [u16], rows: u8) -> u64
+    requires { ⌜ Fits rows edit (now page) ⌝ }
+    ensures { λ r. ⌜ Applied rows edit (now (page .entry)) (now (page .exit)) r ⌝ }
+{
+    match edit {
+        Edit::Keep => 0,
+        _ => change(edit, page, rows),
     }
 }
 

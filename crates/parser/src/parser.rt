@@ -1,15 +1,13 @@
 // The parser: where it stands in a sequence, and what a byte asks for.
-use crate::numbers::back;
 use crate::numbers::pick;
 use crate::params::Params;
+use crate::params::take_byte;
 use crate::rules::between;
 use crate::rules::intermediates;
+use crate::rules::takes_parameters;
 use crate::rules::transition;
 ghost use mathlib.Core.Path.{_≡_};
-ghost use mathlib.Core.Bool.{Bool, cond};
-ghost use Prim.Native.Nat.{_-_};
-ghost use lib.Dec.{eqb};
-ghost use Rattle.parser.specs.Params.{withDigit, withSeparator};
+ghost use Rattle.parser.specs.Params.{withByte};
 ghost use Rattle.parser.specs.Parser as parsing;
 
 // Where the parser stands. The phase tells how many of the intermediates count.
@@ -98,12 +96,11 @@ pub struct Decoded {
 
 // The parameters after a digit or 3B.
 fn with_byte(params: Params, x: u8) -> Params
-    ensures { λ r. ⌜ r ≡ cond (eqb x 0x3B) (withSeparator params) (withDigit params (x - 0x30)) ⌝ }
+    ensures { λ r. ⌜ r ≡ withByte params x ⌝ }
 {
-    if x == 0x3B {
-        return params.with_separator();
-    }
-    params.with_digit(back(x, 0x30, 0))
+    let mut values = params.values;
+    let separators = take_byte(&mut values, params.separators, x);
+    Params { separators, values }
 }
 
 // ESC 40 to 5F is the byte 40 higher.
@@ -239,11 +236,22 @@ impl Parser {
         }
     }
 
-    // One byte.
+    // One byte. The end of a control sequence needs no rule.
     pub fn decode(self, byte: u8) -> Decoded
         ensures { λ r. ⌜ r ≡ parsing.decode self byte ⌝ }
     {
         let phase = self.phase;
+        if takes_parameters(phase) & between(0x40, byte, 0x7E) {
+            return Decoded {
+                parser: self.in_phase(Phase::Ground),
+                action: Action::ControlSequence {
+                    mark: self.mark,
+                    first: 0,
+                    second: 0,
+                    last: byte,
+                },
+            };
+        }
         let step = transition(phase, byte);
         let next = step.next;
         let op = step.op;

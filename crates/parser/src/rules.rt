@@ -8,6 +8,7 @@ ghost use Prim.Native.Nat.{_<_};
 ghost use lib.Dec.{ltb};
 ghost use Rattle.parser.specs.declared.parser.Phase.the-variants.{Escape};
 ghost use Rattle.parser.specs.Parser as parsing;
+ghost use Rattle.parser.specs.Idle.{takesParameters};
 
 pub fn between(low: u8, byte: u8, high: u8) -> bool
     ensures { λ r. ⌜ r ≡ parsing.between low byte high ⌝ }
@@ -181,5 +182,16 @@ pub fn intermediates(phase: Phase) -> u8
         Phase::CsiTwo => 2,
         Phase::CsiIgnore => 0,
         Phase::StringText => 0,
+    }
+}
+
+// Where parameters are read.
+pub fn takes_parameters(phase: Phase) -> bool
+    ensures { λ r. ⌜ r ≡ takesParameters phase ⌝ }
+{
+    match phase {
+        Phase::CsiEntry => true,
+        Phase::CsiParam => true,
+        _ => false,
     }
 }

@@ -6,4 +6,5 @@ pub mod Feed
 pub mod Ask
 pub mod Read
 pub mod Ready
+pub mod Spans
 pub mod Examples

@@ -2,6 +2,7 @@
 use vt::core::Core;
 
 pub mod calls;
+pub mod line;
 pub mod run;
 pub mod whole;
 

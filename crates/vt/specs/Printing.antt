@@ -33,6 +33,10 @@ shownSet s b = cond (not (has96 s) && eqb b 0x20) Ascii s
 abbrev pub cellWord : Core → ℕ → CharSet → ℕ
 cellWord c code s = packed (record { code = code; set = s; rendition = c .rendition; protected = c .protected })
 
+-- the word of the cell that a byte puts
+abbrev pub glyph : Core → ℕ → ℕ
+glyph c b = cellWord c (b % 128) (shownSet (usedSet c b) b)
+
 -- ---- the steps
 
 -- IND at the bottom margin: rows T to B scroll up

@@ -65,6 +65,16 @@ pub fn shown_set(set: CharSet, byte: u8) -> CharSet
     set
 }
 
+// The word of the cell that a byte puts.
+pub fn glyph(core: Core, byte: u8) -> u16
+    ensures { λ r. ⌜ r ≡ printing.glyph core byte ⌝ }
+{
+    let sets = core.sets;
+    let shift = core.shift;
+    let set = used_set(sets, shift, byte);
+    cell_word(core, byte % 128, shown_set(set, byte))
+}
+
 // ---- the edits
 
 // IND at the bottom margin: rows T to B scroll up.

@@ -6,84 +6,171 @@ use Prim.Native.Nat.{ℕ, _+_, _-_, _≤_, _<_}
 use native.Mathlib.Omega.{arith}
 use borrow.Author.Needs.{needs}
 use lib.ListN.{length, getD}
+use Rattle.cells.specs.Writes.{Wrote}
+use Rattle.parser.specs.declared.parser.Decoded.{Decoded}
+use Rattle.parser.specs.Parser.{decode}
 use Rattle.device.specs.declared.sending.Reply.{Reply}
 use Rattle.device.specs.ReplyBytes.{replyBytes}
-use Rattle.cells.specs.Writes.{Wrote}
+use Rattle.vt.specs.declared.core.Core.{Core}
+use Rattle.dispatch.specs.Replies.{replyTo}
 use Rattle.dispatch.specs.Decide.{sends}
+use Rattle.sound.proofs.BoundsLaws.{whole-bounds}
+use Rattle.terminal.specs.Spans.{moved, reparsed}
 use Rattle.terminal.proofs.FeedLoop.{Running, running-none, running-more, running-full, running-done}
+use Rattle.terminal.proofs.SpanLaws.{running-runs}
 use Rattle.terminal.proofs.run.run.Statement.{statement}
 use Rattle.terminal.proofs.run.run.Tie as tie
 
 abbrev Inv-loop : tie.InvT-loop
-Inv-loop page₀ input reply₀ state₀ i₀ replied₀ page reply state i replied = Running state₀ page₀ input reply₀ i state page reply replied
+Inv-loop page₀ input reply₀ core₀ changed₀ i₀ replied₀ page reply core changed i replied =
+    Running (record { core = core₀; changed = changed₀ }) page₀ input reply₀ i (record { core = core; changed = changed }) page reply replied
 
 abbrev μ-loop : tie.MeasureT-loop
-μ-loop page₀ input reply₀ state₀ i₀ replied₀ page reply state i replied = length input - i
+μ-loop page₀ input reply₀ core₀ changed₀ i₀ replied₀ page reply core changed i replied = length input - i
 
 loop-holds : tie.Need-loop-holds Inv-loop μ-loop
-loop-holds c = running-none _ _ _ _ (c .before .before .before .pre)
+loop-holds c = running-none _ _ _ _ (c .before .before .before .before .pre)
+
+print-run-requires : tie.Need-print-run-requires Inv-loop μ-loop
+print-run-requires c κs =
+    let l = c .before .before in
+    (l .loop .inv .ready, l .loop .inv .within)
+
+idle-run-requires : tie.Need-idle-run-requires Inv-loop μ-loop
+idle-run-requires c κs =
+    let pr = c .before .before .before .before in
+    pr .print-run .ensures .end
 
 shared-slice-read-byte : tie.Need-shared-slice-read-byte Inv-loop μ-loop
 shared-slice-read-byte c = search needs
 
-reply-for-requires : tie.Need-reply-for-requires Inv-loop μ-loop
-reply-for-requires c κs = search needs
+decode-requires : tie.Need-decode-requires Inv-loop μ-loop
+decode-requires c κs = search needs
 
-sub-if1 : tie.Need-sub-if1 Inv-loop μ-loop
-sub-if1 c = search needs
+reply-to-requires : tie.Need-reply-to-requires Inv-loop μ-loop
+reply-to-requires c κs =
+    let id = c .before .before .before .before in
+    let pr = id .before .before .before .before .before in
+    let l = pr .before .before .before in
+    let mid = running-runs (l .loop .inv) (pr .print-run .result) (pr .print-run .last .1 .1 .0) (pr .print-run .ensures) (id .idle-run .result) (id .idle-run .ensures) in
+    whole-bounds (mid .ready .whole)
+
+sub-if2 : tie.Need-sub-if2 Inv-loop μ-loop
+sub-if2 c =
+    let l = c .before .before .before .before .before .before .before .before .before .before .before .before .before in
+    let room = l .loop .inv .room in
+    let long = l .loop .inv .sending .long in
+    omega arith
 
 reply-len-requires : tie.Need-reply-len-requires Inv-loop μ-loop
 reply-len-requires c κs = search needs
 
+ended-requires : tie.Need-ended-requires Inv-loop μ-loop
+ended-requires c κs = search needs
+
 same-length : tie.Need-same-length Inv-loop μ-loop
-same-length c = search needs
+same-length c =
+    let id = c .before .before .before .before .before .before .before .before in
+    let pr = id .before .before .before .before .before in
+    pr .print-run .kept .1 .1 .0 ∙ pr .before .before .before .loop .inv .long
 
 same-length-2 : tie.Need-same-length-2 Inv-loop μ-loop
-same-length-2 c = search needs
+same-length-2 c =
+    let id = c .before .before .before .before .before .before .before .before in
+    id .before .before .before .before .before .before .before .before .loop .inv .sending .long
 
 returns : tie.Need-returns Inv-loop μ-loop
 unfolding sends
 returns c =
-    let kind = c .before .before in
-    let turn = kind .before .before .before in
-    let l = turn .before in
-    let b : ℕ = getD (l .before .before .before .before .args .input .now) (l .loop .i) 0 in
+    let rl = c .before .before in
+    let kind = rl .before in
+    let de = kind .before in
+    let th = de .before .before in
+    let id = th .before .before in
+    let pr = id .before .before .before .before .before in
+    let l = pr .before .before .before in
+    let mid = running-runs (l .loop .inv) (pr .print-run .result) (pr .print-run .last .1 .1 .0) (pr .print-run .ensures) (id .idle-run .result) (id .idle-run .ensures) in
+    let core : Core = reparsed (moved (l .loop .core) (pr .print-run .result)) (id .idle-run .result .parser) .core in
+    let b : ℕ = getD (l .before .before .before .before .before .args .input .now) (id .idle-run .result .next) 0 in
     let long = l .loop .inv .sending .long in
-    let n : length (replyBytes (l .loop .state .core .modes .eightbit) (kind .reply-for .result)) ≡ length (sends (l .loop .state .core) b) =
-    ap (λ (r : Reply). length (replyBytes (l .loop .state .core .modes .eightbit) r)) (kind .reply-for .ensures) in
-    running-full (l .loop .inv) (turn .loop-test .taken) b refl (omega (arith, c .if1 .taken, c .before .reply-len .ensures))
+    let drawn : kind .reply-to .result ≡ replyTo core (decode (core .parser) b .action) = kind .reply-to .ensures ∙ ap (λ (d : Decoded). replyTo core (d .action)) (de .decode .ensures) in
+    let n : length (replyBytes (core .modes .eightbit) (kind .reply-to .result)) ≡ length (sends core b) = ap (λ (r : Reply). length (replyBytes (core .modes .eightbit) r)) drawn in
+    rw (c .ended .ensures) (running-full mid (th .if1 .taken) b refl (omega (arith, c .before .if2 .taken, rl .reply-len .ensures)))
 
 send-requires : tie.Need-send-requires Inv-loop μ-loop
-send-requires c κs = search needs
+send-requires c κs =
+    let no = c .before in
+    let rl = no .before in
+    let l = rl .before .before .before .before .before .before .before .before .before .before .before .before .before .before in
+    let room = l .loop .inv .room in
+    let long = l .loop .inv .sending .long in
+    omega (arith, no .if2 .left, rl .reply-len .ensures)
 
 step-requires : tie.Need-step-requires Inv-loop μ-loop
-step-requires c κs = search needs
+step-requires c κs =
+    let se = c .before .before .before in
+    let de = se .before .before .before .before .before in
+    let id = de .before .before .before .before in
+    let pr = id .before .before .before .before .before in
+    let l = pr .before .before .before in
+    let mid = running-runs (l .loop .inv) (pr .print-run .result) (pr .print-run .last .1 .1 .0) (pr .print-run .ensures) (id .idle-run .result) (id .idle-run .ensures) in
+    (mid .ready, de .decode .ensures)
 
 add-i : tie.Need-add-i Inv-loop μ-loop
 add-i c =
-    let turn = c .before .before .before .before .before .before .before .before .before .before .before .before .before in
-    omega (arith, turn .loop-test .taken, turn .before .before .before .before .before .good .1 .1 .0)
+    let st = c .before .before .before in
+    let de = st .before .before .before .before .before .before .before .before .before in
+    let th = de .before .before in
+    omega (arith, th .if1 .taken, th .before .before .before .before .before .before .before .before .before .before .before .before .before .before .before .good .1 .1 .0)
 
 loop-less : tie.Need-loop-less Inv-loop μ-loop
-loop-less c = search needs
+loop-less c =
+    let st = c .before .before .before in
+    let de = st .before .before .before .before .before .before .before .before .before in
+    let th = de .before .before in
+    let id = th .before .before in
+    let pr = id .before .before .before .before .before in
+    omega (arith, th .if1 .taken, id .idle-run .ensures .start, pr .print-run .ensures .start)
 
 loop-again : tie.Need-loop-again Inv-loop μ-loop
 unfolding sends
 loop-again c =
-    let st = c .before .before in
+    let st = c .before .before .before in
     let se = st .before .before .before .before in
-    let fits = se .before .before in
-    let kind = fits .before .before in
-    let turn = kind .before .before .before in
-    let l = turn .before in
-    let b : ℕ = getD (l .before .before .before .before .args .input .now) (l .loop .i) 0 in
+    let no = se .before .before in
+    let rl = no .before in
+    let kind = rl .before in
+    let de = kind .before in
+    let th = de .before .before in
+    let id = th .before .before in
+    let pr = id .before .before .before .before .before in
+    let l = pr .before .before .before in
+    let mid = running-runs (l .loop .inv) (pr .print-run .result) (pr .print-run .last .1 .1 .0) (pr .print-run .ensures) (id .idle-run .result) (id .idle-run .ensures) in
+    let core : Core = reparsed (moved (l .loop .core) (pr .print-run .result)) (id .idle-run .result .parser) .core in
+    let b : ℕ = getD (l .before .before .before .before .before .args .input .now) (id .idle-run .result .next) 0 in
     let long = l .loop .inv .sending .long in
-    let n : length (replyBytes (l .loop .state .core .modes .eightbit) (kind .reply-for .result)) ≡ length (sends (l .loop .state .core) b) =
-    ap (λ (r : Reply). length (replyBytes (l .loop .state .core .modes .eightbit) r)) (kind .reply-for .ensures) in
-    let S : Wrote (l .loop .reply) (l .loop .replied) (sends (l .loop .state .core) b) (se .send .last .1 .1 .0) (se .send .result) =
-    subst (λ (r : Reply). Wrote (l .loop .reply) (l .loop .replied) (replyBytes (l .loop .state .core .modes .eightbit) r) (se .send .last .1 .1 .0) (se .send .result)) (kind .reply-for .ensures) (se .send .ensures) in
-    running-more (l .loop .inv) (turn .loop-test .taken) b refl (omega (arith, fits .if1 .left, fits .before .reply-len .ensures))
-    (st .step .result) (st .step .last .1 .1 .0) (se .send .last .1 .1 .0) (se .send .result) S (st .step .ensures) (st .step .kept .1 .1 .0)
+    let drawn : kind .reply-to .result ≡ replyTo core (decode (core .parser) b .action) = kind .reply-to .ensures ∙ ap (λ (d : Decoded). replyTo core (d .action)) (de .decode .ensures) in
+    let n : length (replyBytes (core .modes .eightbit) (kind .reply-to .result)) ≡ length (sends core b) = ap (λ (r : Reply). length (replyBytes (core .modes .eightbit) r)) drawn in
+    let S : Wrote (l .loop .reply) (l .loop .replied) (sends core b) (se .send .last .1 .1 .0) (se .send .result) =
+    subst (λ (r : Reply). Wrote (l .loop .reply) (l .loop .replied) (replyBytes (core .modes .eightbit) r) (se .send .last .1 .1 .0) (se .send .result)) drawn (se .send .ensures) in
+    running-more mid (th .if1 .taken) b refl (omega (arith, no .if2 .left, rl .reply-len .ensures))
+    (st .step .result) (st .step .last .1 .1 .1 .1 .0) (se .send .last .1 .1 .0) (se .send .result) S (st .step .ensures) (st .step .kept .1 .1 .1 .1 .0)
+
+loop-less-2 : tie.Need-loop-less-2 Inv-loop μ-loop
+loop-less-2 c =
+    let id = c .before .before in
+    let t = id .before .before .before .before .before .before .before in
+    omega (arith, c .if1 .left, t .loop-test .taken)
+
+loop-again-2 : tie.Need-loop-again-2 Inv-loop μ-loop
+loop-again-2 c =
+    let id = c .before .before in
+    let pr = id .before .before .before .before .before in
+    let l = pr .before .before .before in
+    running-runs (l .loop .inv) (pr .print-run .result) (pr .print-run .last .1 .1 .0) (pr .print-run .ensures) (id .idle-run .result) (id .idle-run .ensures)
+
+ended-requires-2 : tie.Need-ended-requires-2 Inv-loop μ-loop
+ended-requires-2 c κs = search needs
 
 same-length-3 : tie.Need-same-length-3 Inv-loop μ-loop
 same-length-3 c = search needs
@@ -92,7 +179,7 @@ same-length-4 : tie.Need-same-length-4 Inv-loop μ-loop
 same-length-4 c = search needs
 
 returns-2 : tie.Need-returns-2 Inv-loop μ-loop
-returns-2 c = running-done (c .before .loop .inv) (c .loop-test .left)
+returns-2 c = rw (c .ended2 .ensures) (running-done (c .before .before .loop .inv) (c .before .loop-test .left))
 
 pub run-spec : {M : Type 1} → statement M
 run-spec =
@@ -101,10 +188,14 @@ run-spec =
     Inv-loop
     μ-loop
     loop-holds
+    print-run-requires
+    idle-run-requires
     shared-slice-read-byte
-    reply-for-requires
-    sub-if1
+    decode-requires
+    reply-to-requires
+    sub-if2
     reply-len-requires
+    ended-requires
     same-length
     same-length-2
     returns
@@ -113,6 +204,9 @@ run-spec =
     add-i
     loop-less
     loop-again
+    loop-less-2
+    loop-again-2
+    ended-requires-2
     same-length-3
     same-length-4
     returns-2)

@@ -1,6 +1,13 @@
 -- What is decided is the definition's, its edits stay on the page, and the bits of both are joined.
 use mathlib.Core.Path.{_≡_, sym, ap, _∙_}
+use Prim.Native.Nat.{ℕ}
 use native.Mathlib.Omega.{arith}
+use Rattle.parser.specs.declared.parser.Decoded.{Decoded}
+use Rattle.parser.specs.Parser.{decode}
+use Rattle.vt.specs.declared.core.Core.{Core}
+use Rattle.vt.specs.declared.core.Decision.{Decision}
+use Rattle.vt.specs.Effects.{withParser}
+use Rattle.dispatch.specs.Decide.{executed, decided}
 use Rattle.sound.proofs.Sound.{decided-sound}
 use Rattle.cells.proofs.EditLaws.{length-applied}
 use Rattle.terminal.proofs.FeedLoop.{step-is}
@@ -8,23 +15,28 @@ use borrow.Author.Needs.{needs}
 use Rattle.terminal.proofs.run.step.Statement.{statement}
 use Rattle.terminal.proofs.run.step.Tie as tie
 
-decide-requires : tie.Need-decide-requires
-decide-requires c κs = search needs
+-- what was decoded is decided
+decides : (c : Core) (b : ℕ) (d : Decoded) (x : Decision) → d ≡ decode (c .parser) b → x ≡ executed (withParser c (d .parser)) (d .action) → x ≡ decided c b
+unfolding decided
+decides c b d x ed ex = ex ∙ ap (λ (y : Decoded). executed (withParser c (y .parser)) (y .action)) ed
+
+execute-requires : tie.Need-execute-requires
+execute-requires c κs = search needs
 
 apply-requires : tie.Need-apply-requires
 apply-requires c κs =
     let d = c .before .before in
     let start = d .before .before .before in
-    let snd = decided-sound (start .args .state .core) (start .args .byte) (start .pre .whole) in
-    record { long = start .pre .size; few = omega (arith, start .pre .whole .rows-high); within = rw (d .decide .ensures) (snd .first) }
+    let snd = decided-sound (start .args .core) (start .args .byte) (start .pre .0 .whole) in
+    record { long = start .pre .0 .size; few = omega (arith, start .pre .0 .whole .rows-high); within = rw (decides (start .args .core) (start .args .byte) (start .args .decoded) (d .execute .result) (start .pre .1) (d .execute .ensures)) (snd .first) }
 
 apply-requires-2 : tie.Need-apply-requires-2
 apply-requires-2 c κs =
     let a = c .before .before .before in
     let d = a .before .before .before in
     let start = d .before .before .before in
-    let snd = decided-sound (start .args .state .core) (start .args .byte) (start .pre .whole) in
-    record { long = a .apply .kept .1 .0 ∙ start .pre .size; few = omega (arith, start .pre .whole .rows-high); within = rw (d .decide .ensures) (snd .second) }
+    let snd = decided-sound (start .args .core) (start .args .byte) (start .pre .0 .whole) in
+    record { long = a .apply .kept .1 .0 ∙ start .pre .0 .size; few = omega (arith, start .pre .0 .whole .rows-high); within = rw (decides (start .args .core) (start .args .byte) (start .args .decoded) (d .execute .result) (start .pre .1) (d .execute .ensures)) (snd .second) }
 
 same-length : tie.Need-same-length
 same-length c = search needs
@@ -35,9 +47,9 @@ returns c =
     let a = b .before .before .before .before in
     let d = a .before .before .before in
     let start = d .before .before .before in
-    step-is (start .args .state) (start .args .byte) (start .args .page .now) (a .apply .last .1 .0) (b .apply2 .last .1 .0) (d .decide .result) (a .apply .result) (b .apply2 .result)
-    (start .pre) (d .decide .ensures) (a .apply .ensures .page) (a .apply .ensures .marked) (b .apply2 .ensures .page) (b .apply2 .ensures .marked)
+    step-is (record { core = start .args .core; changed = start .args .changed }) (start .args .byte) (start .args .page .now) (a .apply .last .1 .0) (b .apply2 .last .1 .0) (d .execute .result) (a .apply .result) (b .apply2 .result)
+    (start .pre .0) (decides (start .args .core) (start .args .byte) (start .args .decoded) (d .execute .result) (start .pre .1) (d .execute .ensures)) (a .apply .ensures .page) (a .apply .ensures .marked) (b .apply2 .ensures .page) (b .apply2 .ensures .marked)
 
 pub step-spec : {M : Type 1} → statement M
 step-spec =
-    tie.close (tie.spec decide-requires apply-requires apply-requires-2 same-length returns)
+    tie.close (tie.spec execute-requires apply-requires apply-requires-2 same-length returns)
