@@ -16,9 +16,9 @@
  * - Any bytes and any lengths are safe, 0 too. A length counts elements: cells of a page, bytes of the rest.
  * - A pointer is not NULL, also where its length is 0, and is aligned for its type.
  * - What a call writes through one pointer does not overlap what it is lent through another.
- * - A record was started by pankholim_start, or is all zero bytes. A copy of one counts as well, at any
- *   address. All zero bytes are not whole: calls refuse them with PANKHOLIM_BROKEN. Other bytes, such as
- *   those of an uninitialised variable, are as undefined here as a bool that is neither 0 nor 1.
+ * - A record may hold any bytes. One that is not whole is refused with PANKHOLIM_BROKEN: all zero bytes always,
+ *   and what a start or a later call left never. It holds no pointers, so a copy of it, at any address, is a
+ *   record for a copy of its page.
  * - Cells of a page may hold any word.
  * - Answers 1, 2 and 4 are refusals; they leave what was lent, but for what is said at the call. 1 is looked
  *   at before 2, and 2 before 4.
@@ -70,7 +70,7 @@ enum pankholim_answer {
 };
 
 /* The record of one terminal: all that lasts between two calls, but the page. It is 96 bytes, aligned to 8,
- * as the library's own; its content is the library's, and it holds no pointers. */
+ * just as the library's own; its content is the library's. */
 typedef struct {
     uint64_t opaque[12];
 } pankholim_terminal;

@@ -45,6 +45,18 @@ static void check(int holds, const char *what, int line)
     }
 }
 
+/* ---- random numbers (xorshift64) */
+
+static uint64_t seed = 0x9E3779B97F4A7C15u;
+
+static unsigned below(unsigned bound)
+{
+    seed ^= seed << 13;
+    seed ^= seed >> 7;
+    seed ^= seed << 17;
+    return (unsigned)(seed >> 33) % bound;
+}
+
 /* ---- guards */
 
 #define WORD_GUARD 0xA5A5
@@ -256,6 +268,52 @@ static void test_broken_records(void)
     check_broken();
     CHECK(start(24, 1920) == PANKHOLIM_DONE);
     CHECK(feed(1920, "A", 0) == PANKHOLIM_DONE);
+}
+
+/* A record of any bytes is taken or refused, and left if refused. */
+static int check_any_record(void)
+{
+    pankholim_terminal before = record.terminal;
+    uint64_t rows;
+    uint32_t count;
+    uint16_t word;
+    uint8_t answer = feed(1920, "A\033[6n", 11);
+    int refused = answer == PANKHOLIM_BROKEN || answer == PANKHOLIM_WRONG_SIZE;
+
+    CHECK(refused || answer == PANKHOLIM_DONE);
+    CHECK(!refused || (page_is_left(0) && memcmp(&before, &record.terminal, sizeof before) == 0));
+    CHECK(ask(&rows, &count) == (answer == PANKHOLIM_BROKEN ? PANKHOLIM_BROKEN : PANKHOLIM_DONE));
+    CHECK(read_word(1920, 1, 1, &word) == (refused ? answer : PANKHOLIM_DONE));
+    return refused;
+}
+
+static void test_records_of_any_bytes(void)
+{
+    pankholim_terminal started;
+    uint8_t *const bytes = (uint8_t *)&record.terminal;
+    unsigned long refused = 0;
+    unsigned round;
+    size_t i;
+
+    start_well(24);
+    started = record.terminal;
+    for (i = 0; i < sizeof started; i++) {
+        unsigned value;
+
+        for (value = 0; value < 256; value++) {
+            set_up();
+            record.terminal = started;
+            bytes[i] = (uint8_t)value;
+            refused += (unsigned)check_any_record();
+        }
+    }
+    CHECK(refused > 0);
+    for (round = 0; round < 1000; round++) {
+        set_up();
+        for (i = 0; i < sizeof started; i++)
+            bytes[i] = (uint8_t)below(round % 2 == 0 ? 256 : 3);
+        check_any_record();
+    }
 }
 
 static void test_wrong_pages(void)
@@ -477,16 +535,6 @@ static void test_copies(void)
 
 /* ---- streams of random bytes, cut anywhere, with any room */
 
-static uint64_t seed = 0x9E3779B97F4A7C15u;
-
-static unsigned below(unsigned bound)
-{
-    seed ^= seed << 13;
-    seed ^= seed >> 7;
-    seed ^= seed << 17;
-    return (unsigned)(seed >> 33) % bound;
-}
-
 /* A byte of a stream: often part of a sequence. */
 static uint8_t random_byte(void)
 {
@@ -604,6 +652,7 @@ int main(int argc, char **argv)
     test_start();
     test_start_on_wrong_pages();
     test_broken_records();
+    test_records_of_any_bytes();
     test_wrong_pages();
     test_lengths_of_zero();
     test_room();
