@@ -12,7 +12,8 @@ pub const REPLY_ROOM: usize = 11;
 
 /// All of a terminal that lasts between two calls, but its page, which the caller lends at each call.
 ///
-/// It is plain data: a clone is a terminal of its own, for a copy of the page.
+/// It is plain data: a clone is a terminal of its own, for a copy of the page, and its bytes may be kept and
+/// brought back.
 ///
 /// ```
 /// use pankholim::{Answer, Record, Refusal};
@@ -57,6 +58,9 @@ impl Fed {
 }
 
 impl Record {
+    /// How many bytes a record has.
+    pub const SIZE: usize = 96;
+
     /// Starts a terminal with `rows` rows: 24, 36 or 48, with a page of 80 cells for each. Every cell becomes
     /// blank. Refused with `Broken` where there is no page of so many rows, with `WrongSize` where the page
     /// has another length; then the page is left.
@@ -65,6 +69,25 @@ impl Record {
         let number =
             unsafe { ffi::pankholim_start(&mut record.raw, rows, page.as_mut_ptr(), page.len()) };
         Answer::of_call(number).map(|_| record)
+    }
+
+    /// A record from bytes that [`to_bytes`](Record::to_bytes) gave. Any others are safe as well: a record that
+    /// is not whole is refused with `Broken` by every call.
+    pub fn from_bytes(bytes: [u8; Record::SIZE]) -> Record {
+        let mut record = Record::default();
+        for (word, bytes) in record.raw.opaque.iter_mut().zip(bytes.chunks_exact(8)) {
+            *word = u64::from_ne_bytes(bytes.try_into().expect("8 bytes"));
+        }
+        record
+    }
+
+    /// The bytes of the record, for the same library on the same machine.
+    pub fn to_bytes(&self) -> [u8; Record::SIZE] {
+        let mut all = [0; Record::SIZE];
+        for (bytes, word) in all.chunks_exact_mut(8).zip(self.raw.opaque) {
+            bytes.copy_from_slice(&word.to_ne_bytes());
+        }
+        all
     }
 
     /// Feeds bytes from the modem. Sequences may be cut anywhere between two calls. Refused with `Broken` or

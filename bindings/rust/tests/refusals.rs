@@ -46,6 +46,44 @@ fn records_that_were_not_started() {
 }
 
 #[test]
+fn records_of_any_bytes() {
+    let mut blank = [0; 1920];
+    let started = Record::start(24, &mut blank).unwrap().to_bytes();
+    let mut refused = 0;
+    for at in 0..Record::SIZE {
+        for value in 0..=255 {
+            let mut bytes = started;
+            bytes[at] = value;
+            let mut record = Record::from_bytes(bytes);
+            assert_eq!(record.to_bytes(), bytes);
+            let mut page = blank;
+            let mut reply = [0; 11];
+            match record.feed(&mut page, b"A\x1b[6n", &mut reply) {
+                Ok(fed) => assert!(fed.is_done()),
+                Err(refusal) => {
+                    assert!(refusal != Refusal::OffPage);
+                    assert_eq!(record.to_bytes(), bytes);
+                    assert_eq!((page, reply), (blank, [0; 11]));
+                    refused += 1;
+                }
+            }
+        }
+    }
+    assert!(refused > 0);
+}
+
+#[test]
+fn records_come_back_from_their_bytes() {
+    let mut page = [0; 1920];
+    let mut record = Record::start(24, &mut page).unwrap();
+    record.feed(&mut page, b"\x1b[3;7", &mut []).unwrap();
+    let mut again = Record::from_bytes(record.to_bytes());
+    again.feed(&mut page, b"7HA", &mut []).unwrap();
+    assert_eq!(again.read(&page, 3, 77).map(Cell::code), Ok(b'A'));
+    assert_eq!(again.ask(), Ok(RowSet::from_bits(4)));
+}
+
+#[test]
 fn pages_of_other_lengths() {
     for size in PageSize::ALL {
         let mut page = vec![0; size.cells()];
