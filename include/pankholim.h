@@ -17,8 +17,8 @@
  * - A pointer is not NULL, also where its length is 0, and is aligned for its type.
  * - What a call writes through one pointer does not overlap what it is lent through another.
  * - A record may hold any bytes. One that is not whole is refused with PANKHOLIM_BROKEN: all zero bytes always,
- *   and what a start or a later call left never. It holds no pointers, so a copy of it, at any address, is a
- *   record for a copy of its page.
+ *   and what a start, or an unrefused feeding or asking, left never. It holds no pointers, so a copy of it, at
+ *   any address, is a record for a copy of its page.
  * - Cells of a page may hold any word.
  * - Answers 1, 2 and 4 are refusals; they leave what was lent, but for what is said at the call. 1 is looked
  *   at before 2, and 2 before 4.
