@@ -1,4 +1,7 @@
 // The terminal for C.
+mod numbers;
+pub mod record;
+
 use text::Written;
 use text::text_len;
 use text::write_text;
