@@ -1,1 +1,3 @@
 pub mod TextLaws
+pub mod RecordLaws
+pub mod CallLaws

@@ -153,3 +153,32 @@ coreOf t rows = record {
   saved = savedOf (t .saved);
   parser = parserOf (t .parser) (t .values);
 }
+
+-- ---- a record whose numbers all name something
+
+abbrev pub renditionNamed : RenditionRecord → Bool
+renditionNamed r = ltb (r .bold) 2 && ltb (r .underline) 2 && ltb (r .blink) 2 && ltb (r .reverse) 2
+
+abbrev pub modesNamed : ModesRecord → Bool
+modesNamed m = ltb (m .insert) 2 && ltb (m .newline) 2 && ltb (m .origin) 2 && ltb (m .autowrap) 2 && ltb (m .shown) 2 && ltb (m .eightbit) 2
+
+abbrev pub setsNamed : SetsRecord → Bool
+setsNamed s = ltb (s .g0) 4 && ltb (s .g1) 4 && ltb (s .g2) 4 && ltb (s .g3) 4 && ltb (s .gl) 4 && ltb (s .gr) 4
+
+abbrev pub savedNamed : SavedRecord → Bool
+savedNamed s = ltb (s .cursor .wrap) 2 && renditionNamed (s .rendition) && ltb (s .origin) 2 && setsNamed (s .sets)
+
+unfoldable pub named : Terminal → Bool
+named t =
+    ltb (t .protected) 2
+    && ltb (t .shift) 3
+    && ltb (t .cursor .wrap) 2
+    && ltb (t .parser .phase) 11
+    && modesNamed (t .modes)
+    && renditionNamed (t .rendition)
+    && setsNamed (t .sets)
+    && savedNamed (t .saved)
+
+-- without rows where a number names nothing: no call takes such a state
+unfoldable pub stateOf : Terminal → State
+stateOf t = record { core = coreOf t (cond (named t) (t .rows) 0); changed = t .changed }

@@ -1,6 +1,8 @@
 // The terminal for C.
+mod by_value;
 mod numbers;
 pub mod record;
+mod state;
 
 use text::Written;
 use text::text_len;

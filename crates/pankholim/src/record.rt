@@ -1,25 +1,16 @@
 // A terminal as C holds it: numbers alone, so that any bytes are a record.
 use crate::numbers::flag_number;
-use crate::numbers::flag_of;
 use crate::numbers::phase_number;
-use crate::numbers::phase_of;
 use crate::numbers::register_number;
-use crate::numbers::register_of;
 use crate::numbers::set_number;
-use crate::numbers::set_of;
 use crate::numbers::shift_number;
-use crate::numbers::shift_of;
 use cells::Rendition;
 use terminal::State;
 use vt::charsets::Sets;
-use vt::core::Core;
-use vt::core::Margins;
 use vt::core::Modes;
 use vt::core::Saved;
 use vt::cursor::Cursor;
-use vt::params::Params;
 use vt::parser::Parser;
-use vt::tabs::Tabs;
 ghost use mathlib.Core.Path.{_≡_};
 ghost use Rattle.pankholim.specs.Record as records;
 
@@ -199,107 +190,5 @@ pub fn record_of(state: State) -> Terminal
         sets: sets_record(core.sets),
         saved: saved_record(core.saved),
         parser: parser_record(parser),
-    }
-}
-
-// ---- the state of a record
-
-fn cursor_of(record: CursorRecord) -> Cursor
-    ensures { λ r. ⌜ r ≡ records.cursorOf record ⌝ }
-{
-    Cursor {
-        row: record.row,
-        column: record.column,
-        wrap: flag_of(record.wrap),
-    }
-}
-
-fn modes_of(record: ModesRecord) -> Modes
-    ensures { λ r. ⌜ r ≡ records.modesOf record ⌝ }
-{
-    Modes {
-        insert: flag_of(record.insert),
-        newline: flag_of(record.newline),
-        origin: flag_of(record.origin),
-        autowrap: flag_of(record.autowrap),
-        shown: flag_of(record.shown),
-        eightbit: flag_of(record.eightbit),
-    }
-}
-
-fn rendition_of(record: RenditionRecord) -> Rendition
-    ensures { λ r. ⌜ r ≡ records.renditionOf record ⌝ }
-{
-    Rendition {
-        bold: flag_of(record.bold),
-        underline: flag_of(record.underline),
-        blink: flag_of(record.blink),
-        reverse: flag_of(record.reverse),
-    }
-}
-
-fn sets_of(record: SetsRecord) -> Sets
-    ensures { λ r. ⌜ r ≡ records.setsOf record ⌝ }
-{
-    Sets {
-        g0: set_of(record.g0),
-        g1: set_of(record.g1),
-        g2: set_of(record.g2),
-        g3: set_of(record.g3),
-        gl: register_of(record.gl),
-        gr: register_of(record.gr),
-    }
-}
-
-fn saved_of(record: SavedRecord) -> Saved
-    ensures { λ r. ⌜ r ≡ records.savedOf record ⌝ }
-{
-    Saved {
-        cursor: cursor_of(record.cursor),
-        rendition: rendition_of(record.rendition),
-        origin: flag_of(record.origin),
-        sets: sets_of(record.sets),
-    }
-}
-
-fn parser_of(record: ParserRecord, values: [u16; 16]) -> Parser
-    ensures { λ r. ⌜ r ≡ records.parserOf record values ⌝ }
-{
-    let params = Params {
-        separators: record.separators,
-        values,
-    };
-    Parser {
-        phase: phase_of(record.phase),
-        mark: record.mark,
-        first: record.first,
-        second: record.second,
-        params,
-    }
-}
-
-// The core of a record, with a number of rows in the place of its own.
-fn core_of(record: Terminal, rows: u8) -> Core
-    ensures { λ r. ⌜ r ≡ records.coreOf record rows ⌝ }
-{
-    let values = record.values;
-    let flags = record.tabs;
-    let tabs = Tabs { flags };
-    let margins = Margins {
-        top: record.top,
-        bottom: record.bottom,
-    };
-    Core {
-        rows,
-        cursor: cursor_of(record.cursor),
-        margins,
-        tabs,
-        modes: modes_of(record.modes),
-        rendition: rendition_of(record.rendition),
-        protected: flag_of(record.protected),
-        sets: sets_of(record.sets),
-        shift: shift_of(record.shift),
-        saved: saved_of(record.saved),
-        parser: parser_of(record.parser, values),
     }
 }
