@@ -46,6 +46,7 @@ use Rattle.pankholim.proofs.record.Terminal as T
 use Rattle.pankholim.proofs.record.Terminal.Laws as T′
 use Rattle.pankholim.proofs.by_value.Left as L
 use Rattle.pankholim.proofs.by_value.Left.Laws as L′
+use Rattle.pankholim.proofs.RecordWalk.{spelled, answer-fits, terminal-is, record-typed, stored-typed}
 use Rattle.pankholim.proofs.by_value.ask as callee
 use Rattle.pankholim.proofs.by_value.ask.Symbol as callee-def
 use Rattle.pankholim.proofs.by_value.ask.Symbol.{name as #callee}
@@ -60,10 +61,6 @@ record-slot = plain (λ _. T.the-row)
 
 abbrev stayed : Stays (ask.ended .signature .params) (ask.ended .kept)
 stayed = (stay-ref (0 ∷ []) tt record-slot, (gave-ref (1 ∷ []) tt (plain (λ _. u64)), (gave-ref (2 ∷ []) tt (plain (λ _. u32)), tt)))
-
--- a record's machine values
-abbrev spelled : Terminal → List Val
-spelled = LL.vals T.the-type T′.the-laws
 
 -- the contract that the proof cites
 abbrev Callee : {M : Type 1} (𝓤 : URA M) (H : Heap 𝓤) (A : Atoms 𝓤) (mem : Memory → SProp 𝓤) (run : Routine → Fun 𝓤) → Contract 𝓤
@@ -106,13 +103,6 @@ module _ {M : Type 1} (𝓤 : URA M) (H : Heap 𝓤) (A : Atoms 𝓤) (W : Given
       move ! (2 ∷ 3 ∷ []) $ join ! $ frame ! $ feqI ! (List Val) (vptr b o ∷ []) (vptr b o ∷ []) refl $ fjoin3 ! $ fjoin ! $ frame ! $
       owned ! u8 (Is u8) (uint-makes 𝓤 H A W w8) (r .answer) _ (refl, fits) $ done !
 
-  -- what whoever holds the result knows of its fields
-  answer-fits : (r : Left) (vs : List Val) → Is L.the-row r vs → r .answer < 2 ^ 8
-  answer-fits r vs is = LL.owed L.the-type L′.the-laws r vs is .0 .1
-
-  terminal-is : (r : Left) (vs : List Val) → Is L.the-row r vs → Is T.the-row (r .terminal) (spelled (r .terminal))
-  terminal-is r vs is = LL.owed L.the-type L′.the-laws r vs is .1 .0
-
   module _ (C : Calls 𝓤 H) (Λ : Loops 𝓤 H) (fm : FmC 𝓤 H (W .laws) C) (known : Triple 𝓤 (C #callee) (Callee 𝓤 H A at-mem run)) where
     walk : ent 𝓤 (onEntry 𝓤 H A ask.signature (κ, (κ₁, (κ₂, tt))) (q, (q₁, (q₂, tt))) a vals) (WpFn 𝓤 H C Λ code.function (vptr b o ∷ vptr (x₁ .ptr .0) (x₁ .ptr .1) ∷ vptr (x₂ .ptr .0) (x₂ .ptr .1) ∷ []) Post)
     walk =
@@ -125,7 +115,7 @@ module _ {M : Type 1} (𝓤 : URA M) (H : Heap 𝓤) (A : Atoms 𝓤) (W : Given
         opens ! tt T.the-row {h = h} b o (λ vs. spelt ! T.the-row (Is T.the-row) (shows 𝓤 H A T.the-row) (LL.vals T.the-type T′.the-laws) (LL.tells T.the-type T′.the-laws) fullShare h vs b o $
         move ! (1 ∷ []) $ peeks ! T.the-row (Is T.the-row) (shows 𝓤 H A T.the-row) h (spelled h) (λ is. move ! (1 ∷ 0 ∷ []) $
         -- [the record's cell; what it owns; the open borrow; obs; auth; the others' tokens; what the others own; _7; …; _6; …; _5; …; _4; …; _3; …; _2; …; _1; …; room for _0; …]
-        assigns ! (of-opd ! (load ! (from ! (hop ! (look ! 19 refl) (stop !))) (look-raw ! 0 refl))) (from ! (stop !)) (init ! 11 refl (LL.lawful T.the-type T′.the-laws 𝓤 H A W .typed h _ is .0)) $
+        assigns ! (of-opd ! (load ! (from ! (hop ! (look ! 19 refl) (stop !))) (look-raw ! 0 refl))) (from ! (stop !)) (init ! 11 refl (record-typed 𝓤 H A W h is)) $
         assigns ! (addr ! (from ! (hop ! (look ! 17 refl) (stop !)))) (from ! (stop !)) (init ! 9 refl (tt, tt)) $
         assigns ! (addr ! (from ! (hop ! (look ! 15 refl) (stop !)))) (from ! (stop !)) (init ! 7 refl (tt, tt)) $
         move ! (1 ∷ 6 ∷ []) $ fjoin ! $ move ! (5 ∷ 0 ∷ []) $ use2 W (raw (Callee 𝓤 H A at-mem run .pre to)) goes $
@@ -137,7 +127,7 @@ module _ {M : Type 1} (𝓤 : URA M) (H : Heap 𝓤) (A : Atoms 𝓤) (W : Given
         peeks ! L.the-row (Is L.the-row) (shows 𝓤 H A L.the-row) r (v ∷ []) (λ is′.
         land ! (from ! (stop !)) (init ! 13 refl (LL.lawful L.the-type L′.the-laws 𝓤 H A W .typed r _ is′ .0)) $
         rewrite ! 13 (λ (u : Val). ‵ (fat fullShare L′.mir l₄ 0 u)) (ap only (LL.tells L.the-type L′.the-laws r _ is′)) refl $
-        assigns ! (of-opd ! (load ! (from ! (fld ! refl (stop !))) (look-in ! 13 (sub ! 1 refl (whole !))))) (from ! (hop ! (look ! 19 refl) (stop !))) (store-raw ! 3 refl (LL.lawful T.the-type T′.the-laws 𝓤 H A W .typed (r .terminal) _ (terminal-is r _ is′) .0)) $
+        assigns ! (of-opd ! (load ! (from ! (fld ! refl (stop !))) (look-in ! 13 (sub ! 1 refl (whole !))))) (from ! (hop ! (look ! 19 refl) (stop !))) (store-raw ! 3 refl (stored-typed 𝓤 H A W r _ is′)) $
         assigns ! (of-opd ! (load ! (from ! (fld ! refl (stop !))) (look-in ! 13 (sub ! 0 refl (whole !))))) (from ! (stop !)) (init ! 21 refl (tt, record { fits = answer-fits r _ is′ })) $
         -- the borrow is closed at the record returned
         drop ! $ owned ! T.the-row (Is T.the-row) (LL.makes T.the-type T′.the-plain 𝓤 H A) (r .terminal) _ (terminal-is r _ is′) $ move ! (3 ∷ 0 ∷ 4 ∷ 5 ∷ 6 ∷ []) $
