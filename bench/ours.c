@@ -25,7 +25,7 @@ static void feed_chunk(const uint8_t *bytes, size_t length, struct outcome *outc
     } while (answer == PANKHOLIM_NO_ROOM);
     if (answer != PANKHOLIM_DONE || pankholim_ask(&terminal, &rows, &count) != PANKHOLIM_DONE)
         abort();
-    outcome->changed = (outcome->changed << 1 | outcome->changed >> 63) ^ rows;
+    fold_rows(outcome, rows);
 }
 
 static double feed(const uint8_t *bytes, size_t length, struct outcome *outcome)
@@ -35,10 +35,10 @@ static double feed(const uint8_t *bytes, size_t length, struct outcome *outcome)
 
     memset(outcome, 0, sizeof *outcome);
     pankholim_start(&terminal, ROWS, page, PANKHOLIM_CELLS(ROWS));
-    from = now();
+    from = processor_time();
     for (at = 0; at < length; at += CHUNK)
         feed_chunk(bytes + at, length - at < CHUNK ? length - at : CHUNK, outcome);
-    to = now();
+    to = processor_time();
     for (i = 0; i < PANKHOLIM_CELLS(ROWS); i++)
         outcome->page[i] = pankholim_set_of(page[i]) == PANKHOLIM_ASCII ? pankholim_code(page[i]) : 0;
     return to - from;

@@ -40,8 +40,6 @@ static void on_output(const char *bytes, size_t length, void *user)
 
 /* ---- a terminal */
 
-static VTermDamageSize merge = VTERM_DAMAGE_SCROLL;
-
 static VTerm *start(VTermAllocatorFunctions *allocator, void *counts, struct reports *reports)
 {
     static const VTermScreenCallbacks callbacks = { .damage = on_damage, .moverect = on_move };
@@ -54,7 +52,7 @@ static VTerm *start(VTermAllocatorFunctions *allocator, void *counts, struct rep
     vterm_output_set_callback(terminal, on_output, reports);
     screen = vterm_obtain_screen(terminal);
     vterm_screen_set_callbacks(screen, &callbacks, reports);
-    vterm_screen_set_damage_merge(screen, merge);
+    vterm_screen_set_damage_merge(screen, VTERM_DAMAGE_SCROLL);
     vterm_screen_reset(screen, 1);
     vterm_screen_flush_damage(screen);
     reports->rows = 0;
@@ -70,7 +68,7 @@ static void feed_chunks(VTerm *terminal, const uint8_t *bytes, size_t length, st
     for (at = 0; at < length; at += CHUNK) {
         vterm_input_write(terminal, (const char *)bytes + at, length - at < CHUNK ? length - at : CHUNK);
         vterm_screen_flush_damage(screen);
-        outcome->changed = (outcome->changed << 1 | outcome->changed >> 63) ^ reports->rows;
+        fold_rows(outcome, reports->rows);
         reports->rows = 0;
     }
 }
@@ -150,9 +148,9 @@ static double feed(const uint8_t *bytes, size_t length, struct outcome *outcome)
     double from, to;
 
     memset(outcome, 0, sizeof *outcome);
-    from = now();
+    from = processor_time();
     feed_chunks(terminal, bytes, length, &reports, outcome);
-    to = now();
+    to = processor_time();
     outcome->replied = reports.replied;
     read_page(terminal, outcome);
     vterm_free(terminal);

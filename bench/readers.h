@@ -18,21 +18,27 @@ struct outcome {
 
 struct reader {
     const char *name;
-    /* Feeds a fresh terminal. Only the feeding is timed: the answer is its nanoseconds. */
+    /* Feeds a fresh terminal. Only the feeding and the asking are timed: the answer is their nanoseconds. */
     double (*feed)(const uint8_t *bytes, size_t length, struct outcome *outcome);
 };
 
 extern const struct reader ours;
 extern const struct reader libvterm;
 
-/* Bytes that libvterm asked of its allocator for one terminal: at its start, and after a stream; in how many
+/* Bytes that one terminal of libvterm has from its allocator, as started and after a stream, and in how many
  * pieces. */
 struct memory {
     size_t started, fed, pieces;
 };
 void libvterm_memory(const uint8_t *bytes, size_t length, struct memory *memory);
 
-/* Nanoseconds. */
-double now(void);
+/* Folds a set of rows into what changed (as FNV-1a does a byte). */
+static inline void fold_rows(struct outcome *outcome, uint64_t rows)
+{
+    outcome->changed = (outcome->changed ^ rows) * 0x100000001B3u;
+}
+
+/* Nanoseconds of this program's processor time: what else runs on the machine does not count. */
+double processor_time(void);
 
 #endif
