@@ -1,0 +1,297 @@
+/*
+ * Measures the library beside Debian's libvterm, in one run.
+ *
+ *     bench [--bytes N] [--rounds N] [--seed N]        the tables
+ *     bench --only ours|libvterm --stream NAME --bytes N [--seed N]
+ *
+ * The second form feeds the first N bytes of a stream once, for a tool that counts instructions. It makes as
+ * much of the stream whatever N is, so that a run with 0 bytes costs all but the feeding.
+ */
+#define _POSIX_C_SOURCE 199309L
+#include "pankholim.h"
+#include "readers.h"
+#include "streams.h"
+
+#include <stdio.h>
+#include <stdlib.h>
+#include <string.h>
+#include <time.h>
+
+enum { MAX_ROUNDS = 99, ONLY_BYTES = 1 << 20 };
+
+static struct options {
+    size_t bytes;
+    unsigned rounds;
+    uint64_t seed;
+    const char *only;
+    const char *stream;
+} options = { 8 << 20, 7, 1, NULL, NULL };
+
+static double read_clock(clockid_t clock)
+{
+    struct timespec time;
+
+    clock_gettime(clock, &time);
+    return 1e9 * (double)time.tv_sec + (double)time.tv_nsec;
+}
+
+double processor_time(void)
+{
+    return read_clock(CLOCK_PROCESS_CPUTIME_ID);
+}
+
+/* Cheaper to read, for short times. */
+static double now(void)
+{
+    return read_clock(CLOCK_MONOTONIC);
+}
+
+/* ---- times of several rounds */
+
+struct times {
+    double all[MAX_ROUNDS];
+    unsigned rounds;
+};
+
+static int by_size(const void *a, const void *b)
+{
+    double x = *(const double *)a, y = *(const double *)b;
+
+    return (x > y) - (x < y);
+}
+
+static void sort_times(struct times *times)
+{
+    qsort(times->all, times->rounds, sizeof times->all[0], by_size);
+}
+
+/* Of sorted times. */
+static double best(const struct times *times)
+{
+    return times->all[0];
+}
+
+static double median(const struct times *times)
+{
+    unsigned half = times->rounds / 2;
+
+    return times->rounds % 2 == 1 ? times->all[half] : (times->all[half - 1] + times->all[half]) / 2;
+}
+
+/* ---- the streams */
+
+/* Nanoseconds as millions of bytes in a second. */
+static double rate(double nanoseconds)
+{
+    return 1e3 * (double)options.bytes / nanoseconds;
+}
+
+/* Of all that the last round gave. */
+static unsigned long long checksum(const struct outcome *mine, const struct outcome *theirs)
+{
+    return (mine->changed + mine->replied) * 31 + theirs->changed + theirs->replied;
+}
+
+static void measure(const struct stream *stream, const uint8_t *bytes)
+{
+    static struct outcome mine, theirs;
+    struct times my, their;
+    const char *same;
+
+    for (my.rounds = their.rounds = 0; my.rounds < options.rounds;) {
+        my.all[my.rounds++] = ours.feed(bytes, options.bytes, &mine);
+        their.all[their.rounds++] = libvterm.feed(bytes, options.bytes, &theirs);
+    }
+    sort_times(&my);
+    sort_times(&their);
+    same = memcmp(mine.page, theirs.page, sizeof mine.page) == 0 ? "yes" : "no";
+    printf("%-8s %9.1f %9.1f %11.1f %9.1f %9.2f   %-4s %016llx\n", stream->name, rate(best(&my)), rate(median(&my)),
+           rate(best(&their)), rate(median(&their)), median(&their) / median(&my), stream->same_everywhere ? same : "-",
+           checksum(&mine, &theirs));
+    fflush(stdout);
+}
+
+static void measure_streams(uint8_t *bytes)
+{
+    size_t i;
+
+    printf("Streams of %.1f million bytes in chunks of %d, %u rounds of each in turn; millions of bytes in a\nsecond of processor time\n\n",
+           (double)options.bytes / 1e6, CHUNK, options.rounds);
+    printf("%-8s %9s %9s %11s %9s %9s   %-4s %s\n", "stream", "ours", "", "libvterm", "", "ours to", "same", "checksum");
+    printf("%-8s %9s %9s %11s %9s %9s   %-4s\n", "", "best", "median", "best", "median", "libvterm", "page");
+    for (i = 0; i < STREAMS; i++) {
+        make_stream(&streams[i], options.seed, bytes, options.bytes);
+        measure(&streams[i], bytes);
+    }
+    printf("\n");
+}
+
+/* ---- one scroll of the whole page */
+
+enum { SCROLLS = 8, TIMINGS = 2000 };
+
+static uint16_t page[PANKHOLIM_CELLS(ROWS)];
+static uint16_t drawn[PANKHOLIM_CELLS(ROWS)];
+static pankholim_terminal terminal;
+
+static void scroll_ours(void)
+{
+    static const uint8_t line_feeds[SCROLLS] = "\n\n\n\n\n\n\n\n";
+    uint8_t reply[1];
+    size_t read, replied;
+
+    pankholim_feed(&terminal, page, PANKHOLIM_CELLS(ROWS), line_feeds, SCROLLS, reply, 0, &read, &replied);
+}
+
+static void scroll_by_memmove(void)
+{
+    int i, column;
+
+    for (i = 0; i < SCROLLS; i++) {
+        memmove(page, page + COLUMNS, (ROWS - 1) * COLUMNS * sizeof page[0]);
+        for (column = 0; column < COLUMNS; column++)
+            page[(ROWS - 1) * COLUMNS + column] = PANKHOLIM_BLANK;
+        /* The page is looked at after each. */
+        __asm__ volatile("" : : "r"(page) : "memory");
+    }
+}
+
+static void scroll_nothing(void)
+{
+    __asm__ volatile("" : : "r"(page) : "memory");
+}
+
+/* The median time of some scrolls, each from the drawn page. */
+static double time_scrolls(void (*scroll)(void))
+{
+    static double times[TIMINGS];
+    int i;
+
+    for (i = 0; i < TIMINGS; i++) {
+        double from;
+
+        memcpy(page, drawn, sizeof page);
+        from = now();
+        scroll();
+        times[i] = now() - from;
+    }
+    qsort(times, TIMINGS, sizeof times[0], by_size);
+    return times[TIMINGS / 2];
+}
+
+static void measure_scroll(const char *name)
+{
+    struct times my = { { 0 }, 0 }, their = { { 0 }, 0 };
+
+    while (my.rounds < options.rounds) {
+        double nothing = time_scrolls(scroll_nothing);
+
+        my.all[my.rounds++] = (time_scrolls(scroll_ours) - nothing) / SCROLLS;
+        their.all[their.rounds++] = (time_scrolls(scroll_by_memmove) - nothing) / SCROLLS;
+    }
+    sort_times(&my);
+    sort_times(&their);
+    printf("%-22s %9.1f %9.1f %9.2f\n", name, median(&my), median(&their), median(&my) / median(&their));
+}
+
+static void measure_scrolls(void)
+{
+    static const uint8_t bottom[] = "\033[24H";
+    uint8_t reply[1];
+    size_t read, replied, i;
+
+    printf("One scroll of all %d rows, nanoseconds (median of %u rounds of %d times %d)\n\n", ROWS, options.rounds,
+           TIMINGS, SCROLLS);
+    printf("%-22s %9s %9s %9s\n", "page", "ours", "memmove", "ratio");
+    pankholim_start(&terminal, ROWS, page, PANKHOLIM_CELLS(ROWS));
+    pankholim_feed(&terminal, page, PANKHOLIM_CELLS(ROWS), bottom, sizeof bottom - 1, reply, 0, &read, &replied);
+    memcpy(drawn, page, sizeof drawn);
+    measure_scroll("blank");
+    for (i = 0; i < PANKHOLIM_CELLS(ROWS); i++)
+        drawn[i] = (uint16_t)('!' + (7 * (i / COLUMNS) + i % COLUMNS) % 94);
+    measure_scroll("rows of text");
+    printf("\n");
+}
+
+/* ---- memory */
+
+static void measure_memory(uint8_t *bytes)
+{
+    size_t length = options.bytes < ONLY_BYTES ? options.bytes : ONLY_BYTES;
+    struct memory theirs;
+    size_t i, most = 0;
+
+    for (i = 0; i < STREAMS; i++) {
+        make_stream(&streams[i], options.seed, bytes, length);
+        libvterm_memory(bytes, length, &theirs);
+        most = theirs.fed > most ? theirs.fed : most;
+    }
+    printf("Bytes for one terminal of %d by %d\n\n", ROWS, COLUMNS);
+    printf("ours      %6lu: a record of %lu and a page of %lu, whatever is fed\n",
+           (unsigned long)(sizeof(pankholim_terminal) + sizeof page), (unsigned long)sizeof(pankholim_terminal),
+           (unsigned long)sizeof page);
+    printf("libvterm  %6lu: as started, in %lu pieces; at most %lu after a stream\n", (unsigned long)theirs.started,
+           (unsigned long)theirs.pieces, (unsigned long)most);
+}
+
+/* ---- the two forms */
+
+static int tables(void)
+{
+    uint8_t *bytes = malloc(options.bytes > ONLY_BYTES ? options.bytes : ONLY_BYTES);
+
+    if (bytes == NULL)
+        return 1;
+    measure_streams(bytes);
+    measure_scrolls();
+    measure_memory(bytes);
+    free(bytes);
+    return 0;
+}
+
+static int only(void)
+{
+    static uint8_t bytes[ONLY_BYTES];
+    static struct outcome outcome;
+    const struct stream *stream = options.stream == NULL ? NULL : find_stream(options.stream);
+    const struct reader *reader = strcmp(options.only, "ours") == 0 ? &ours : &libvterm;
+
+    if (stream == NULL || options.bytes > ONLY_BYTES) {
+        fprintf(stderr, "bench: --only needs the name of a stream and at most %d bytes\n", ONLY_BYTES);
+        return 2;
+    }
+    make_stream(stream, options.seed, bytes, ONLY_BYTES);
+    reader->feed(bytes, options.bytes, &outcome);
+    printf("%s %s %lu %016llx\n", reader->name, stream->name, (unsigned long)options.bytes,
+           (unsigned long long)(outcome.changed ^ outcome.replied));
+    return 0;
+}
+
+static int set_option(const char *name, const char *value)
+{
+    if (strcmp(name, "--bytes") == 0)
+        options.bytes = strtoul(value, NULL, 10);
+    else if (strcmp(name, "--rounds") == 0)
+        options.rounds = (unsigned)strtoul(value, NULL, 10);
+    else if (strcmp(name, "--seed") == 0)
+        options.seed = strtoul(value, NULL, 10);
+    else if (strcmp(name, "--only") == 0)
+        options.only = value;
+    else if (strcmp(name, "--stream") == 0)
+        options.stream = value;
+    else
+        return 0;
+    return 1 <= options.rounds && options.rounds <= MAX_ROUNDS;
+}
+
+int main(int argc, char **argv)
+{
+    int i;
+
+    for (i = 1; i < argc; i += 2)
+        if (i + 1 == argc || !set_option(argv[i], argv[i + 1])) {
+            fprintf(stderr, "usage: bench [--bytes N] [--rounds N] [--seed N] [--only ours|libvterm --stream NAME]\n");
+            return 2;
+        }
+    return options.only == NULL ? tables() : only();
+}

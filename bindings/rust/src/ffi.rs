@@ -1,0 +1,45 @@
+//! The functions of `include/pankholim.h`.
+
+/// As `pankholim_terminal`: all zero bytes, or what a start wrote.
+#[repr(C)]
+#[derive(Clone)]
+pub struct Terminal {
+    pub opaque: [u64; 12],
+}
+
+extern "C" {
+    pub fn pankholim_start(terminal: *mut Terminal, rows: u8, page: *mut u16, cells: usize) -> u8;
+
+    pub fn pankholim_feed(
+        terminal: *mut Terminal,
+        page: *mut u16,
+        cells: usize,
+        input: *const u8,
+        length: usize,
+        reply: *mut u8,
+        room: usize,
+        read: *mut usize,
+        replied: *mut usize,
+    ) -> u8;
+
+    pub fn pankholim_ask(terminal: *mut Terminal, rows: *mut u64, count: *mut u32) -> u8;
+
+    pub fn pankholim_read(
+        terminal: *const Terminal,
+        page: *const u16,
+        cells: usize,
+        row: usize,
+        column: usize,
+        word: *mut u16,
+    ) -> u8;
+
+    pub fn pankholim_text_len(page: *const u16, cells: usize) -> usize;
+
+    pub fn pankholim_write_text(
+        page: *const u16,
+        cells: usize,
+        text: *mut u8,
+        room: usize,
+        length: *mut usize,
+    ) -> u8;
+}

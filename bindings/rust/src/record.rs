@@ -1,0 +1,157 @@
+//! The record of a terminal, over pages that the caller keeps.
+
+use crate::answer::{Answer, Refusal};
+use crate::cell::Cell;
+use crate::ffi;
+use crate::rows::RowSet;
+use std::fmt;
+
+/// The longest reply to one byte. With so much room a feeding that has input and is not refused reads at
+/// least one byte.
+pub const REPLY_ROOM: usize = 11;
+
+/// All of a terminal that lasts between two calls, but its page, which the caller lends at each call.
+///
+/// It is plain data: a clone is a terminal of its own, for a copy of the page, and its bytes may be kept and
+/// brought back.
+///
+/// ```
+/// use pankholim::{Answer, Record, Refusal};
+///
+/// let mut page = [0; 24 * 80];
+/// let mut record = Record::start(24, &mut page).unwrap();
+///
+/// // The reply to CSI 6n, the cursor's position, finds no room in 5 bytes: its last byte is not read.
+/// let mut reply = [0; 5];
+/// let fed = record.feed(&mut page, b"\x1b[6n", &mut reply).unwrap();
+/// assert_eq!((fed.answer, fed.read, fed.replied), (Answer::NoRoom, 3, 0));
+///
+/// let mut reply = [0; 6];
+/// let fed = record.feed(&mut page, b"n", &mut reply).unwrap();
+/// assert_eq!((fed.answer, fed.read, fed.replied), (Answer::Done, 1, 6));
+/// assert_eq!(&reply, b"\x1b[1;1R");
+///
+/// assert_eq!(record.read(&page, 25, 1), Err(Refusal::OffPage));
+/// ```
+#[derive(Clone)]
+pub struct Record {
+    raw: ffi::Terminal,
+}
+
+/// What a feeding did.
+#[derive(Clone, Copy, PartialEq, Eq, Hash, Debug)]
+pub struct Fed {
+    /// `Done`, with all input read, or `NoRoom`: the reply to the next byte is longer than the room left, and
+    /// that byte is not read.
+    pub answer: Answer,
+    /// How many bytes of the input were read.
+    pub read: usize,
+    /// How many bytes at the front of the reply buffer are to be sent to the modem. Those after them are left.
+    pub replied: usize,
+}
+
+impl Fed {
+    /// Was all input read?
+    pub fn is_done(self) -> bool {
+        self.answer == Answer::Done
+    }
+}
+
+impl Record {
+    /// How many bytes a record has.
+    pub const SIZE: usize = 96;
+
+    /// Starts a terminal with `rows` rows: 24, 36 or 48, with a page of 80 cells for each. Every cell becomes
+    /// blank. Refused with `Broken` where there is no page of so many rows, with `WrongSize` where the page
+    /// has another length; then the page is left.
+    pub fn start(rows: u8, page: &mut [u16]) -> Result<Record, Refusal> {
+        let mut record = Record::default();
+        let number =
+            unsafe { ffi::pankholim_start(&mut record.raw, rows, page.as_mut_ptr(), page.len()) };
+        Answer::of_call(number).map(|_| record)
+    }
+
+    /// A record from bytes that [`to_bytes`](Record::to_bytes) gave. Any others are safe as well: a record that
+    /// is not whole is refused with `Broken` by every call.
+    pub fn from_bytes(bytes: [u8; Record::SIZE]) -> Record {
+        let mut record = Record::default();
+        for (word, bytes) in record.raw.opaque.iter_mut().zip(bytes.chunks_exact(8)) {
+            *word = u64::from_ne_bytes(bytes.try_into().expect("8 bytes"));
+        }
+        record
+    }
+
+    /// The bytes of the record, for the same library on the same machine.
+    pub fn to_bytes(&self) -> [u8; Record::SIZE] {
+        let mut all = [0; Record::SIZE];
+        for (bytes, word) in all.chunks_exact_mut(8).zip(self.raw.opaque) {
+            bytes.copy_from_slice(&word.to_ne_bytes());
+        }
+        all
+    }
+
+    /// Feeds bytes from the modem. Sequences may be cut anywhere between two calls. Refused with `Broken` or
+    /// `WrongSize`; then record, page and reply are left.
+    pub fn feed(
+        &mut self,
+        page: &mut [u16],
+        input: &[u8],
+        reply: &mut [u8],
+    ) -> Result<Fed, Refusal> {
+        let mut read = 0;
+        let mut replied = 0;
+        let number = unsafe {
+            ffi::pankholim_feed(
+                &mut self.raw,
+                page.as_mut_ptr(),
+                page.len(),
+                input.as_ptr(),
+                input.len(),
+                reply.as_mut_ptr(),
+                reply.len(),
+                &mut read,
+                &mut replied,
+            )
+        };
+        Answer::of_call(number).map(|answer| Fed {
+            answer,
+            read,
+            replied,
+        })
+    }
+
+    /// The rows where a step changed a cell since the last asking, or since the start; then none is noted any
+    /// more. Refused with `Broken`; then the record is left.
+    pub fn ask(&mut self) -> Result<RowSet, Refusal> {
+        let mut bits = 0;
+        let mut count = 0;
+        let number = unsafe { ffi::pankholim_ask(&mut self.raw, &mut bits, &mut count) };
+        let rows = RowSet::from_bits(bits);
+        debug_assert_eq!(count as usize, rows.len());
+        Answer::of_call(number).map(|_| rows)
+    }
+
+    /// The cell at a row and column, both from 1. Refused with `Broken`, `WrongSize` or `OffPage`.
+    pub fn read(&self, page: &[u16], row: usize, column: usize) -> Result<Cell, Refusal> {
+        let mut word = 0;
+        let number = unsafe {
+            ffi::pankholim_read(&self.raw, page.as_ptr(), page.len(), row, column, &mut word)
+        };
+        Answer::of_call(number).map(|_| Cell::from_word(word))
+    }
+}
+
+/// A record that was not started: every call refuses it with `Broken`.
+impl Default for Record {
+    fn default() -> Record {
+        Record {
+            raw: ffi::Terminal { opaque: [0; 12] },
+        }
+    }
+}
+
+impl fmt::Debug for Record {
+    fn fmt(&self, f: &mut fmt::Formatter) -> fmt::Result {
+        f.debug_struct("Record").finish_non_exhaustive()
+    }
+}

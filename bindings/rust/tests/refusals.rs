@@ -1,0 +1,192 @@
+//! What is refused, and that all is left then.
+
+use pankholim::{page_text, text_len, write_text};
+use pankholim::{Answer, Cell, PageSize, Record, Refusal, RowSet, Terminal, TextRoom, REPLY_ROOM};
+
+#[test]
+fn starts() {
+    for rows in 0..=255 {
+        let mut page = [0x1234; 48 * 80];
+        for cells in [0, 80, 1919, 1920, 1921, 2880, 3840] {
+            let page = &mut page[..cells];
+            page.fill(0x1234);
+            let started = Record::start(rows, page);
+            if ![24, 36, 48].contains(&rows) {
+                assert_eq!(started.err(), Some(Refusal::Broken));
+            } else if cells != 80 * usize::from(rows) {
+                assert_eq!(started.err(), Some(Refusal::WrongSize));
+            } else {
+                assert!(started.is_ok());
+                assert!(page.iter().all(|&word| word == Cell::BLANK.word()));
+                continue;
+            }
+            assert!(page.iter().all(|&word| word == 0x1234));
+        }
+    }
+}
+
+#[test]
+fn records_that_were_not_started() {
+    let mut record = Record::default();
+    let mut page = [0x1234; 1920];
+    let mut reply = [0xEE; 11];
+    assert_eq!(
+        record.feed(&mut page, b"A\x1b[6n", &mut reply),
+        Err(Refusal::Broken)
+    );
+    assert_eq!(
+        record.feed(&mut page[..3], b"", &mut []),
+        Err(Refusal::Broken)
+    );
+    assert_eq!(record.ask(), Err(Refusal::Broken));
+    assert_eq!(record.read(&page, 1, 1), Err(Refusal::Broken));
+    assert_eq!(record.read(&[], 0, 0), Err(Refusal::Broken));
+    assert!(page.iter().all(|&word| word == 0x1234));
+    assert_eq!(reply, [0xEE; 11]);
+}
+
+#[test]
+fn records_of_any_bytes() {
+    let mut blank = [0; 1920];
+    let started = Record::start(24, &mut blank).unwrap().to_bytes();
+    let mut refused = 0;
+    for at in 0..Record::SIZE {
+        for value in 0..=255 {
+            let mut bytes = started;
+            bytes[at] = value;
+            let mut record = Record::from_bytes(bytes);
+            assert_eq!(record.to_bytes(), bytes);
+            let mut page = blank;
+            let mut reply = [0; 11];
+            match record.feed(&mut page, b"A\x1b[6n", &mut reply) {
+                Ok(fed) => assert!(fed.is_done()),
+                Err(refusal) => {
+                    assert!(refusal != Refusal::OffPage);
+                    assert_eq!(record.to_bytes(), bytes);
+                    assert_eq!((page, reply), (blank, [0; 11]));
+                    refused += 1;
+                }
+            }
+        }
+    }
+    assert!(refused > 0);
+}
+
+#[test]
+fn records_come_back_from_their_bytes() {
+    let mut page = [0; 1920];
+    let mut record = Record::start(24, &mut page).unwrap();
+    record.feed(&mut page, b"\x1b[3;7", &mut []).unwrap();
+    let mut again = Record::from_bytes(record.to_bytes());
+    again.feed(&mut page, b"7HA", &mut []).unwrap();
+    assert_eq!(again.read(&page, 3, 77).map(Cell::code), Ok(b'A'));
+    assert_eq!(again.ask(), Ok(RowSet::from_bits(4)));
+}
+
+#[test]
+fn pages_of_other_lengths() {
+    for size in PageSize::ALL {
+        let mut page = vec![0; size.cells()];
+        let mut record = Record::start(size.rows() as u8, &mut page).unwrap();
+        for cells in [0, 1, 80, 1919, 1920, 1921, 2880, 3840, 4000] {
+            if cells == size.cells() {
+                continue;
+            }
+            let mut other = vec![0x1234; cells];
+            let mut reply = [0xEE; 11];
+            assert_eq!(
+                record.feed(&mut other, b"A\x1b[6n", &mut reply),
+                Err(Refusal::WrongSize)
+            );
+            assert_eq!(
+                record.feed(&mut other, b"", &mut []),
+                Err(Refusal::WrongSize)
+            );
+            assert_eq!(record.read(&other, 1, 1), Err(Refusal::WrongSize));
+            assert_eq!(record.read(&other, 0, 99), Err(Refusal::WrongSize));
+            assert!(other.iter().all(|&word| word == 0x1234));
+            assert_eq!(reply, [0xEE; 11]);
+        }
+        assert_eq!(record.ask(), Ok(RowSet::EMPTY));
+        assert!(record.feed(&mut page, b"", &mut []).is_ok());
+    }
+}
+
+#[test]
+fn cells_off_the_page() {
+    for size in PageSize::ALL {
+        let terminal = Terminal::new(size);
+        let rows = size.rows();
+        for (row, column) in [(1, 1), (1, 80), (rows, 1), (rows, 80)] {
+            assert_eq!(terminal.cell(row, column), Ok(Cell::BLANK));
+        }
+        for off in [0, 81, 255, 256, 65536, usize::MAX, 1 << 63] {
+            assert_eq!(terminal.cell(1, off), Err(Refusal::OffPage));
+            assert_eq!(terminal.cell(off, 1), Err(Refusal::OffPage));
+            assert_eq!(terminal.cell(off, off), Err(Refusal::OffPage));
+        }
+        assert_eq!(terminal.cell(rows + 1, 1), Err(Refusal::OffPage));
+        assert_eq!(terminal.field(1, 1, 80).unwrap(), "");
+        assert_eq!(terminal.field(1, 80, 1).unwrap(), "");
+        assert_eq!(terminal.field(1, 80, 2), Err(Refusal::OffPage));
+        assert_eq!(terminal.field(1, usize::MAX, 2), Err(Refusal::OffPage));
+        assert_eq!(terminal.field(1, 1, usize::MAX), Err(Refusal::OffPage));
+        assert_eq!(terminal.field(0, 1, 0).unwrap(), "");
+    }
+}
+
+#[test]
+fn replies_without_room() {
+    let mut terminal = Terminal::new(PageSize::Rows24);
+    let fed = terminal.feed(b"\x1b[24;80H\x1b[?6n", &mut []);
+    assert_eq!((fed.answer, fed.read, fed.replied), (Answer::NoRoom, 12, 0));
+    for room in 0..REPLY_ROOM {
+        let mut reply = vec![0xEE; room];
+        let fed = terminal.feed(b"nA", &mut reply);
+        assert_eq!((fed.answer, fed.read, fed.replied), (Answer::NoRoom, 0, 0));
+        assert!(reply.iter().all(|&byte| byte == 0xEE));
+    }
+    assert!(terminal.take_changed_rows().is_empty());
+    let mut reply = [0xEE; REPLY_ROOM + 1];
+    let fed = terminal.feed(b"nA", &mut reply);
+    assert_eq!((fed.answer, fed.read, fed.replied), (Answer::Done, 2, 11));
+    assert_eq!(&reply, b"\x1b[?24;80;1R\xEE");
+    assert!(fed.is_done());
+    assert_eq!(terminal.take_changed_rows(), RowSet::from_bits(1 << 23));
+}
+
+#[test]
+fn empty_input() {
+    let mut terminal = Terminal::new(PageSize::Rows36);
+    let before = terminal.words().to_vec();
+    let fed = terminal.feed(b"", &mut []);
+    assert_eq!((fed.answer, fed.read, fed.replied), (Answer::Done, 0, 0));
+    assert_eq!(terminal.words(), before);
+    assert!(terminal.take_changed_rows().is_empty());
+}
+
+#[test]
+fn texts_without_room() {
+    let mut page = [Cell::BLANK.word(); 160];
+    page[0] = 0x00F1;
+    assert_eq!(text_len(&page), 5);
+    for room in 0..5 {
+        let mut out = vec![0xEE; room];
+        assert_eq!(write_text(&page, &mut out), Err(TextRoom { needed: 5 }));
+        assert!(out.iter().all(|&byte| byte == 0xEE));
+    }
+    let mut out = [0xEE; 6];
+    assert_eq!(write_text(&page, &mut out), Ok(5));
+    assert_eq!(&out, b"\xE2\x94\x80\n\n\xEE");
+    assert_eq!(page_text(&page), "\u{2500}\n\n");
+    assert_eq!(page_text(&page[..79]), "");
+    assert_eq!(page_text(&[]), "");
+    assert_eq!(write_text(&[], &mut []), Ok(0));
+}
+
+#[test]
+fn every_word_has_a_text() {
+    let words: Vec<u16> = (0..=0xFFFF).collect();
+    let text = page_text(&words);
+    assert_eq!(text.lines().count(), words.len() / 80);
+}

@@ -1,0 +1,4 @@
+pub mod TextLaws
+pub mod RecordLaws
+pub mod CallLaws
+pub mod RecordWalk

@@ -1,0 +1,40 @@
+-- What writing a page as text leaves, by the definition's two answers: the bytes counted are the text's.
+use mathlib.Core.Path.{_≡_, refl, sym, ap, _∙_}
+use mathlib.Core.Bool.{Bool, true, false, cond}
+use mathlib.Core.List.{List}
+use Prim.Native.Nat.{ℕ}
+use lib.Dec.{leb}
+use lib.ListN.{length}
+use Rattle.text.specs.declared.Written.{Written}
+use Rattle.text.specs.declared.Written.the-variants.{Whole, NoRoom}
+use Rattle.text.specs.Text.{pageText, written, Write, writeGives}
+use Rattle.pankholim.specs.Leaves.{WriteLeaves, writtenNumber}
+
+-- the bytes that a text takes, as an answer has them
+abbrev taken : ℕ → Written → ℕ
+taken n (Whole m) = m
+taken n NoRoom = n
+
+module _ (p o : List ℕ) where
+  taken-is : taken (length (pageText p)) (written p o .result) ≡ length (pageText p)
+  unfolding written
+  taken-is = by-answer (leb (length (pageText p)) (length o))
+    where
+      by-answer : (t : Bool) → taken (length (pageText p)) (writeGives (cond t (Whole (length (pageText p))) NoRoom) (pageText p) o .result) ≡ length (pageText p)
+      by-answer true = refl
+      by-answer false = refl
+
+  module _ (w : Written) (b : List ℕ) (e : written p o ≡ record { result = w; buffer = b }) where
+    pub leaves-whole : (n : ℕ) → w ≡ Whole n → WriteLeaves p o 0 b n
+    leaves-whole n is = record {
+      answer-is = sym (ap (λ (d : Write). writtenNumber (d .result)) e ∙ ap writtenNumber is);
+      out-is = sym (ap (λ (d : Write). d .buffer) e);
+      len-is = sym (ap (taken (length (pageText p))) is) ∙ sym (ap (λ (d : Write). taken (length (pageText p)) (d .result)) e) ∙ taken-is;
+    }
+
+    pub leaves-none : (n : ℕ) → w ≡ NoRoom → n ≡ length (pageText p) → WriteLeaves p o 3 b n
+    leaves-none n is len = record {
+      answer-is = sym (ap (λ (d : Write). writtenNumber (d .result)) e ∙ ap writtenNumber is);
+      out-is = sym (ap (λ (d : Write). d .buffer) e);
+      len-is = len;
+    }

@@ -1,0 +1,109 @@
+// The calls with the record by value: what each leaves of it is returned.
+use crate::record::Terminal;
+use crate::record::record_of;
+use crate::state::state_of;
+use terminal::Answer;
+use terminal::State;
+use terminal::calls;
+ghost use mathlib.Core.Path.{_≡_};
+ghost use Rattle.terminal.specs.Answers as answers;
+ghost use Rattle.terminal.specs.Start.{started};
+ghost use Rattle.terminal.specs.Feed.{fed};
+ghost use Rattle.terminal.specs.Ask.{asked};
+ghost use Rattle.terminal.specs.Read.{cellRead};
+ghost use Rattle.pankholim.specs.Record.{stateOf};
+ghost use Rattle.pankholim.specs.Leaves as leaving;
+
+// The number of an answer, and the record that a call leaves.
+pub struct Left {
+    pub answer: u8,
+    pub terminal: Terminal,
+}
+
+// Document 01's numbers.
+fn number(answer: Answer) -> u8
+    ensures { λ r. ⌜ r ≡ answers.number answer ⌝ }
+{
+    match answer {
+        Answer::Done => 0,
+        Answer::Broken => 1,
+        Answer::WrongSize => 2,
+        Answer::NoRoom => 3,
+        Answer::OffPage => 4,
+    }
+}
+
+fn refused(answer: Answer) -> bool
+    ensures { λ r. ⌜ r ≡ answers.refusal answer ⌝ }
+{
+    match answer {
+        Answer::Done => false,
+        Answer::Broken => true,
+        Answer::WrongSize => true,
+        Answer::NoRoom => false,
+        Answer::OffPage => true,
+    }
+}
+
+// Refused, the record as it came; else that of the state returned.
+fn record_left(terminal: Terminal, answer: Answer, state: State) -> Terminal
+    ensures { λ r. ⌜ r ≡ leaving.left terminal answer state ⌝ }
+{
+    if refused(answer) {
+        return terminal;
+    }
+    record_of(state)
+}
+
+pub fn start(rows: u8, page: &mut [u16]) -> Left
+    ensures { λ r. ⌜ leaving.StartLeaves (started rows (now (page .entry))) (r .answer) (r .terminal) (now (page .exit)) ⌝ }
+{
+    let done = calls::start(rows, page);
+    let answer = done.answer;
+    Left {
+        answer: number(answer),
+        terminal: record_of(done.state),
+    }
+}
+
+pub fn feed(
+    terminal: Terminal,
+    page: &mut [u16],
+    input: &[u8],
+    reply: &mut [u8],
+    read: &mut usize,
+    replied: &mut usize,
+) -> Left
+    ensures { λ r. ⌜ leaving.FeedLeaves terminal (fed (stateOf terminal) (now (page .entry)) (now (input .entry)) (now (reply .entry))) (r .answer) (r .terminal) (now (page .exit)) (now (reply .exit)) (now (read .exit)) (now (replied .exit)) ⌝ }
+{
+    let done = calls::feed(state_of(terminal), page, input, reply);
+    *read = done.read;
+    *replied = done.replied;
+    let answer = done.answer;
+    Left {
+        answer: number(answer),
+        terminal: record_left(terminal, answer, done.state),
+    }
+}
+
+pub fn ask(terminal: Terminal, rows: &mut u64, count: &mut u32) -> Left
+    ensures { λ r. ⌜ leaving.AskLeaves terminal (asked (stateOf terminal)) (r .answer) (r .terminal) (now (rows .exit)) (now (count .exit)) ⌝ }
+{
+    let done = calls::ask(state_of(terminal));
+    *rows = done.rows;
+    *count = done.count;
+    let answer = done.answer;
+    Left {
+        answer: number(answer),
+        terminal: record_left(terminal, answer, done.state),
+    }
+}
+
+pub fn read(terminal: Terminal, page: &[u16], row: usize, column: usize, word: &mut u16) -> u8
+    ensures { λ r. ⌜ leaving.ReadLeaves (cellRead (stateOf terminal) (now (page .entry)) row column) r (now (word .exit)) ⌝ }
+{
+    let done = calls::read(state_of(terminal), page, row, column);
+    *word = done.word;
+    let answer = done.answer;
+    number(answer)
+}

@@ -1,0 +1,96 @@
+// The terminal for C: one record per modem, changed where it lies.
+mod by_value;
+mod numbers;
+pub mod record;
+mod state;
+
+use crate::record::Terminal;
+use text::Written;
+use text::text_len;
+use text::write_text;
+ghost use mathlib.Core.Path.{_≡_};
+ghost use lib.ListN.{length};
+ghost use Rattle.terminal.specs.Start.{started};
+ghost use Rattle.terminal.specs.Feed.{fed};
+ghost use Rattle.terminal.specs.Ask.{asked};
+ghost use Rattle.terminal.specs.Read.{cellRead};
+ghost use Rattle.text.specs.Text.{pageText};
+ghost use Rattle.pankholim.specs.Record.{stateOf};
+ghost use Rattle.pankholim.specs.Leaves.{StartLeaves, FeedLeaves, AskLeaves, ReadLeaves, WriteLeaves};
+
+// Starts a terminal of 24, 36 or 48 rows: every cell blank, the record fresh, whatever it was.
+#[no_mangle]
+pub extern "C" fn pankholim_start(terminal: &mut Terminal, rows: u8, page: &mut [u16]) -> u8
+    ensures { λ r. ⌜ StartLeaves (started rows (now (page .entry))) r (now (terminal .exit)) (now (page .exit)) ⌝ }
+{
+    let left = by_value::start(rows, page);
+    *terminal = left.terminal;
+    left.answer
+}
+
+// Feeds bytes from the modem, until the input ends or a reply does not fit.
+#[no_mangle]
+pub extern "C" fn pankholim_feed(
+    terminal: &mut Terminal,
+    page: &mut [u16],
+    input: &[u8],
+    reply: &mut [u8],
+    read: &mut usize,
+    replied: &mut usize,
+) -> u8
+    ensures { λ r. ⌜ FeedLeaves (now (terminal .entry)) (fed (stateOf (now (terminal .entry))) (now (page .entry)) (now (input .entry)) (now (reply .entry))) r (now (terminal .exit)) (now (page .exit)) (now (reply .exit)) (now (read .exit)) (now (replied .exit)) ⌝ }
+{
+    let left = by_value::feed(*terminal, page, input, reply, read, replied);
+    *terminal = left.terminal;
+    left.answer
+}
+
+// Asks for the changed rows, and empties the set.
+#[no_mangle]
+pub extern "C" fn pankholim_ask(terminal: &mut Terminal, rows: &mut u64, count: &mut u32) -> u8
+    ensures { λ r. ⌜ AskLeaves (now (terminal .entry)) (asked (stateOf (now (terminal .entry)))) r (now (terminal .exit)) (now (rows .exit)) (now (count .exit)) ⌝ }
+{
+    let left = by_value::ask(*terminal, rows, count);
+    *terminal = left.terminal;
+    left.answer
+}
+
+// Reads a cell by its row and column, counted from 1.
+#[no_mangle]
+pub extern "C" fn pankholim_read(
+    terminal: &Terminal,
+    page: &[u16],
+    row: usize,
+    column: usize,
+    word: &mut u16,
+) -> u8
+    ensures { λ r. ⌜ ReadLeaves (cellRead (stateOf (now (terminal .entry))) (now (page .entry)) row column) r (now (word .exit)) ⌝ }
+{
+    by_value::read(*terminal, page, row, column, word)
+}
+
+// How many bytes the text of a page takes.
+#[no_mangle]
+pub extern "C" fn pankholim_text_len(page: &[u16]) -> usize
+    ensures { λ r. ⌜ r ≡ length (pageText (now (page .entry))) ⌝ }
+{
+    text_len(page)
+}
+
+// Writes the text of a page at the front of a buffer, whole or not at all. `len` is the bytes that it
+// takes, also where the buffer is too small.
+#[no_mangle]
+pub extern "C" fn pankholim_write_text(page: &[u16], out: &mut [u8], len: &mut usize) -> u8
+    ensures { λ r. ⌜ WriteLeaves (now (page .entry)) (now (out .entry)) r (now (out .exit)) (now (len .exit)) ⌝ }
+{
+    match write_text(page, out) {
+        Written::Whole { len: n } => {
+            *len = n;
+            0
+        }
+        Written::NoRoom => {
+            *len = text_len(page);
+            3
+        }
+    }
+}

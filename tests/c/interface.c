@@ -1,0 +1,670 @@
+/*
+ * Checks every call of the C interface: its answers, what it gives, and that what it must leave is left.
+ *
+ *     interface CAPTURES
+ *
+ * CAPTURES is the folder of captures. Exits with 0 and the number of checks, or with 1 at the first that fails.
+ */
+#include <stdio.h>
+#include <stdlib.h>
+#include <string.h>
+
+#include "pankholim.h"
+
+#define GUARD 64
+#define MAX_CELLS (PANKHOLIM_CELLS(PANKHOLIM_MAX_ROWS) + 160)
+#define MAX_BYTES 16384
+
+/* Everything that is lent lies between guards. */
+static struct {
+    uint8_t before[GUARD];
+    pankholim_terminal terminal;
+    uint8_t after[GUARD];
+} record;
+static uint16_t words[GUARD + MAX_CELLS + GUARD];
+static uint8_t reply_bytes[GUARD + MAX_BYTES + GUARD];
+static uint8_t text_bytes[GUARD + MAX_BYTES + GUARD];
+
+static uint16_t *const page = words + GUARD;
+static uint8_t *const reply = reply_bytes + GUARD;
+static uint8_t *const text = text_bytes + GUARD;
+
+/* What the last feeding gave. */
+static size_t read_count, replied;
+
+static unsigned long checks;
+
+#define CHECK(what) check((what), #what, __LINE__)
+
+static void check(int holds, const char *what, int line)
+{
+    checks++;
+    if (!holds) {
+        printf("interface.c:%d: not so: %s\n", line, what);
+        exit(1);
+    }
+}
+
+/* ---- random numbers (xorshift64) */
+
+static uint64_t seed = 0x9E3779B97F4A7C15u;
+
+static unsigned below(unsigned bound)
+{
+    seed ^= seed << 13;
+    seed ^= seed >> 7;
+    seed ^= seed << 17;
+    return (unsigned)(seed >> 33) % bound;
+}
+
+/* ---- guards */
+
+#define WORD_GUARD 0xA5A5
+#define BYTE_GUARD 0xA5
+
+/* Fills all that is lent with the guard, the record between its guards with zero. */
+static void set_up(void)
+{
+    size_t i;
+
+    memset(&record, BYTE_GUARD, sizeof record);
+    memset(&record.terminal, 0, sizeof record.terminal);
+    for (i = 0; i < sizeof words / sizeof words[0]; i++)
+        words[i] = WORD_GUARD;
+    memset(reply_bytes, BYTE_GUARD, sizeof reply_bytes);
+    memset(text_bytes, BYTE_GUARD, sizeof text_bytes);
+}
+
+static int are_guards(const uint8_t *bytes, size_t length)
+{
+    size_t i;
+
+    for (i = 0; i < length; i++)
+        if (bytes[i] != BYTE_GUARD)
+            return 0;
+    return 1;
+}
+
+/* Is the buffer whole but for `length` bytes from its first one on? */
+static int is_left(const uint8_t *bytes, size_t length)
+{
+    return are_guards(bytes, GUARD) && are_guards(bytes + GUARD + length, MAX_BYTES - length + GUARD);
+}
+
+static int page_is_left(size_t cells)
+{
+    return are_guards((const uint8_t *)words, GUARD * sizeof(uint16_t))
+           && are_guards((const uint8_t *)(page + cells), (MAX_CELLS - cells + GUARD) * sizeof(uint16_t));
+}
+
+static int record_guards_are_left(void)
+{
+    return are_guards(record.before, GUARD) && are_guards(record.after, GUARD);
+}
+
+/* ---- the calls, each on the guarded buffers */
+
+static uint8_t start(uint8_t rows, size_t cells)
+{
+    uint8_t answer = pankholim_start(&record.terminal, rows, page, cells);
+
+    CHECK(record_guards_are_left());
+    CHECK(page_is_left(cells));
+    return answer;
+}
+
+static void start_well(uint8_t rows)
+{
+    set_up();
+    CHECK(start(rows, PANKHOLIM_CELLS((size_t)rows)) == PANKHOLIM_DONE);
+}
+
+static uint8_t feed_bytes(size_t cells, const void *input, size_t length, size_t room)
+{
+    uint8_t answer;
+
+    memset(reply_bytes, BYTE_GUARD, sizeof reply_bytes);
+    read_count = replied = 12345;
+    answer = pankholim_feed(&record.terminal, page, cells, input, length, reply, room, &read_count, &replied);
+    CHECK(read_count <= length && replied <= room);
+    CHECK(is_left(reply_bytes, replied));
+    CHECK(page_is_left(cells));
+    CHECK(record_guards_are_left());
+    return answer;
+}
+
+static uint8_t feed(size_t cells, const char *input, size_t room)
+{
+    return feed_bytes(cells, input, strlen(input), room);
+}
+
+static uint8_t ask(uint64_t *rows, uint32_t *count)
+{
+    uint8_t answer;
+
+    *rows = 12345;
+    *count = 12345;
+    answer = pankholim_ask(&record.terminal, rows, count);
+    CHECK(record_guards_are_left());
+    return answer;
+}
+
+static int asks(uint64_t rows, uint32_t count)
+{
+    uint64_t changed;
+    uint32_t many;
+
+    return ask(&changed, &many) == PANKHOLIM_DONE && changed == rows && many == count;
+}
+
+static uint8_t read_word(size_t cells, size_t row, size_t column, uint16_t *word)
+{
+    *word = 12345;
+    return pankholim_read(&record.terminal, page, cells, row, column, word);
+}
+
+static int reads(size_t cells, size_t row, size_t column, uint16_t word)
+{
+    uint16_t found;
+
+    return read_word(cells, row, column, &found) == PANKHOLIM_DONE && found == word;
+}
+
+static int replied_is(const char *expected)
+{
+    return replied == strlen(expected) && memcmp(reply, expected, replied) == 0;
+}
+
+/* ---- starting */
+
+static int all_blank(size_t cells)
+{
+    size_t i;
+
+    for (i = 0; i < cells; i++)
+        if (page[i] != PANKHOLIM_BLANK)
+            return 0;
+    return 1;
+}
+
+/* The record is that of a fresh terminal of 24 rows, as far as calls can show. */
+static void check_fresh_24(void)
+{
+    CHECK(asks(0, 0));
+    CHECK(feed(PANKHOLIM_CELLS(24), "\033[6n", 11) == PANKHOLIM_DONE && replied_is("\033[1;1R"));
+    CHECK(feed(PANKHOLIM_CELLS(24), "\033[99;99H\033[6n", 11) == PANKHOLIM_DONE && replied_is("\033[24;80R"));
+    CHECK(feed(PANKHOLIM_CELLS(36), "", 11) == PANKHOLIM_WRONG_SIZE);
+}
+
+static void test_start(void)
+{
+    unsigned rows;
+
+    for (rows = 0; rows <= 255; rows++) {
+        int good = rows == 24 || rows == 36 || rows == 48;
+        size_t cells = good ? PANKHOLIM_CELLS(rows) : 1920;
+
+        set_up();
+        memset(&record.terminal, rows % 2, sizeof record.terminal);
+        CHECK(start((uint8_t)rows, cells) == (good ? PANKHOLIM_DONE : PANKHOLIM_BROKEN));
+        if (good) {
+            CHECK(all_blank(cells));
+            CHECK(asks(0, 0));
+        } else {
+            CHECK(page_is_left(0));
+            check_fresh_24();
+        }
+    }
+}
+
+static void test_start_on_wrong_pages(void)
+{
+    static const size_t lengths[] = { 0, 1, 79, 80, 1919, 1921, 2000, 2879, 2880, 3839, 3840, 4000 };
+    static const uint8_t good[] = { 24, 36, 48 };
+    size_t i, j;
+
+    for (i = 0; i < sizeof good; i++)
+        for (j = 0; j < sizeof lengths / sizeof lengths[0]; j++) {
+            if (lengths[j] == PANKHOLIM_CELLS((size_t)good[i]))
+                continue;
+            set_up();
+            CHECK(start(good[i], lengths[j]) == PANKHOLIM_WRONG_SIZE);
+            CHECK(page_is_left(0));
+            check_fresh_24();
+        }
+    /* With both wrong, 1 comes first. */
+    set_up();
+    CHECK(start(25, 0) == PANKHOLIM_BROKEN);
+    CHECK(start(0, 0) == PANKHOLIM_BROKEN);
+    CHECK(start(255, 4000) == PANKHOLIM_BROKEN);
+}
+
+/* ---- refusals */
+
+/* Every call but a start refuses the record, and leaves everything. */
+static void check_broken(void)
+{
+    pankholim_terminal before = record.terminal;
+    uint64_t rows;
+    uint32_t count;
+    uint16_t word;
+
+    CHECK(feed(1920, "A\033[6n", 11) == PANKHOLIM_BROKEN && read_count == 0 && replied == 0);
+    CHECK(feed(1920, "", 0) == PANKHOLIM_BROKEN && read_count == 0 && replied == 0);
+    CHECK(feed(7, "A", 11) == PANKHOLIM_BROKEN && read_count == 0 && replied == 0);
+    CHECK(ask(&rows, &count) == PANKHOLIM_BROKEN && rows == 0 && count == 0);
+    CHECK(read_word(1920, 1, 1, &word) == PANKHOLIM_BROKEN && word == PANKHOLIM_BLANK);
+    CHECK(read_word(7, 0, 81, &word) == PANKHOLIM_BROKEN && word == PANKHOLIM_BLANK);
+    CHECK(page_is_left(0));
+    CHECK(memcmp(&before, &record.terminal, sizeof before) == 0);
+}
+
+static void test_broken_records(void)
+{
+    set_up();
+    check_broken();
+    /* Flags on, numbers 1: R is none of the three. */
+    memset(&record.terminal, 1, sizeof record.terminal);
+    check_broken();
+    CHECK(start(24, 1920) == PANKHOLIM_DONE);
+    CHECK(feed(1920, "A", 0) == PANKHOLIM_DONE);
+}
+
+/* A record of any bytes is taken or refused, and left if refused. */
+static int check_any_record(void)
+{
+    pankholim_terminal before = record.terminal;
+    uint64_t rows;
+    uint32_t count;
+    uint16_t word;
+    uint8_t answer = feed(1920, "A\033[6n", 11);
+    int refused = answer == PANKHOLIM_BROKEN || answer == PANKHOLIM_WRONG_SIZE;
+
+    CHECK(refused || answer == PANKHOLIM_DONE);
+    CHECK(!refused || (page_is_left(0) && memcmp(&before, &record.terminal, sizeof before) == 0));
+    CHECK(ask(&rows, &count) == (answer == PANKHOLIM_BROKEN ? PANKHOLIM_BROKEN : PANKHOLIM_DONE));
+    CHECK(read_word(1920, 1, 1, &word) == (refused ? answer : PANKHOLIM_DONE));
+    return refused;
+}
+
+static void test_records_of_any_bytes(void)
+{
+    pankholim_terminal started;
+    uint8_t *const bytes = (uint8_t *)&record.terminal;
+    unsigned long refused = 0;
+    unsigned round;
+    size_t i;
+
+    start_well(24);
+    started = record.terminal;
+    for (i = 0; i < sizeof started; i++) {
+        unsigned value;
+
+        for (value = 0; value < 256; value++) {
+            set_up();
+            record.terminal = started;
+            bytes[i] = (uint8_t)value;
+            refused += (unsigned)check_any_record();
+        }
+    }
+    CHECK(refused > 0);
+    for (round = 0; round < 1000; round++) {
+        set_up();
+        for (i = 0; i < sizeof started; i++)
+            bytes[i] = (uint8_t)below(round % 2 == 0 ? 256 : 3);
+        check_any_record();
+    }
+}
+
+static void test_wrong_pages(void)
+{
+    static const size_t lengths[] = { 0, 1, 80, 1919, 1921, 2880, 4000 };
+    pankholim_terminal before;
+    uint16_t word;
+    size_t i;
+
+    start_well(24);
+    CHECK(feed(1920, "Hi\033[5", 0) == PANKHOLIM_DONE);
+    before = record.terminal;
+    for (i = 0; i < sizeof lengths / sizeof lengths[0]; i++) {
+        size_t j;
+
+        for (j = 0; j < MAX_CELLS; j++)
+            page[j] = WORD_GUARD;
+        CHECK(feed(lengths[i], "nA", 11) == PANKHOLIM_WRONG_SIZE && read_count == 0 && replied == 0);
+        CHECK(feed(lengths[i], "", 0) == PANKHOLIM_WRONG_SIZE && read_count == 0 && replied == 0);
+        CHECK(read_word(lengths[i], 1, 1, &word) == PANKHOLIM_WRONG_SIZE && word == PANKHOLIM_BLANK);
+        CHECK(read_word(lengths[i], 0, 0, &word) == PANKHOLIM_WRONG_SIZE && word == PANKHOLIM_BLANK);
+        CHECK(page_is_left(0));
+        CHECK(memcmp(&before, &record.terminal, sizeof before) == 0);
+    }
+    /* The sequence that was cut before the refusals goes on. */
+    CHECK(feed(1920, "n", 4) == PANKHOLIM_DONE && replied_is("\033[0n"));
+    CHECK(asks(1, 1));
+}
+
+/* ---- feeding */
+
+static void test_lengths_of_zero(void)
+{
+    pankholim_terminal before;
+
+    start_well(24);
+    CHECK(feed(1920, "Hi\033[6", 0) == PANKHOLIM_DONE && read_count == 5 && replied == 0);
+    before = record.terminal;
+    CHECK(feed(1920, "", 0) == PANKHOLIM_DONE && read_count == 0 && replied == 0);
+    CHECK(feed(1920, "", 11) == PANKHOLIM_DONE && read_count == 0 && replied == 0);
+    CHECK(memcmp(&before, &record.terminal, sizeof before) == 0);
+    CHECK(reads(1920, 1, 1, 'H') && reads(1920, 1, 2, 'i') && reads(1920, 1, 3, PANKHOLIM_BLANK));
+}
+
+static void test_room(void)
+{
+    size_t room;
+
+    start_well(24);
+    CHECK(feed(1920, "\033[6n", 0) == PANKHOLIM_NO_ROOM && read_count == 3 && replied == 0);
+    for (room = 0; room < 6; room++)
+        CHECK(feed(1920, "nAB", room) == PANKHOLIM_NO_ROOM && read_count == 0 && replied == 0);
+    CHECK(asks(0, 0));
+    CHECK(feed(1920, "nAB", 6) == PANKHOLIM_DONE && read_count == 3 && replied_is("\033[1;1R"));
+    CHECK(asks(1, 1));
+    /* Replies before the one without room are given; what came before its last byte is done. */
+    CHECK(feed(1920, "\033[5n\033[HC\033[cD", 10) == PANKHOLIM_NO_ROOM && read_count == 10);
+    CHECK(replied_is("\033[0n"));
+    CHECK(reads(1920, 1, 1, 'C') && reads(1920, 1, 2, 'B'));
+    CHECK(feed(1920, "cD", 8) == PANKHOLIM_DONE && read_count == 2 && replied_is("\033[?64;6c"));
+    CHECK(reads(1920, 1, 2, 'D'));
+    /* The longest reply, and the room that lets every feeding go on. */
+    CHECK(feed(1920, "\033[24;80H\033[?6n", 10) == PANKHOLIM_NO_ROOM && read_count == 12);
+    CHECK(feed(1920, "n", PANKHOLIM_REPLY_ROOM) == PANKHOLIM_DONE && replied_is("\033[?24;80;1R"));
+}
+
+static void test_example_11(void)
+{
+    start_well(24);
+    CHECK(feed(1920, "\033[c\033[5n\033[6n", 18) == PANKHOLIM_DONE);
+    CHECK(replied_is("\033[?64;6c\033[0n\033[1;1R") && replied == 18);
+}
+
+/* ---- the changed rows */
+
+static void test_ask(void)
+{
+    static const uint8_t good[] = { 24, 36, 48 };
+    size_t i;
+
+    start_well(24);
+    CHECK(asks(0, 0));
+    CHECK(feed(1920, "A", 0) == PANKHOLIM_DONE && asks(1, 1) && asks(0, 0));
+    CHECK(feed(1920, "\033[HA", 0) == PANKHOLIM_DONE && asks(0, 0));
+    CHECK(feed(1920, "\033[24H\n", 0) == PANKHOLIM_DONE && asks(1, 1));
+    CHECK(feed(1920, "\033[?7h\033[24HA\033[24;80H ", 0) == PANKHOLIM_DONE && asks((uint64_t)1 << 23, 1));
+    CHECK(feed(1920, "A", 0) == PANKHOLIM_DONE && asks((uint64_t)3 << 22, 2));
+    for (i = 0; i < sizeof good; i++) {
+        start_well(good[i]);
+        CHECK(feed(PANKHOLIM_CELLS((size_t)good[i]), "\033#8", 0) == PANKHOLIM_DONE);
+        CHECK(asks(((uint64_t)1 << good[i]) - 1, good[i]));
+    }
+}
+
+/* ---- reading cells */
+
+static void test_read(void)
+{
+    static const size_t off[] = { 0, 81, 49, 256, 65537, (size_t)-1, (size_t)1 << 63 };
+    size_t i;
+    uint16_t word;
+
+    start_well(48);
+    CHECK(feed(3840, "\033[5;77H1.10\033[48;80Hx", 0) == PANKHOLIM_DONE);
+    CHECK(reads(3840, 5, 77, '1') && reads(3840, 5, 78, '.') && reads(3840, 5, 80, '0'));
+    CHECK(reads(3840, 48, 80, 'x') && reads(3840, 1, 1, PANKHOLIM_BLANK));
+    for (i = 0; i < sizeof off / sizeof off[0]; i++) {
+        CHECK(off[i] == 49 || read_word(3840, 1, off[i], &word) == PANKHOLIM_OFF_PAGE);
+        CHECK(off[i] == 49 || word == PANKHOLIM_BLANK);
+        CHECK(read_word(3840, off[i], 1, &word) == PANKHOLIM_OFF_PAGE && word == PANKHOLIM_BLANK);
+        CHECK(read_word(3840, off[i], off[i], &word) == PANKHOLIM_OFF_PAGE && word == PANKHOLIM_BLANK);
+    }
+    /* A word is given as it was found. */
+    page[PANKHOLIM_INDEX(7, 9)] = 0xFFFF;
+    CHECK(reads(3840, 7, 9, 0xFFFF));
+}
+
+static void test_cells(void)
+{
+    uint16_t word;
+
+    start_well(24);
+    CHECK(feed(1920, "\033[1;5;4;7m\033[1\"q\033(0q", 0) == PANKHOLIM_DONE);
+    CHECK(read_word(1920, 1, 1, &word) == PANKHOLIM_DONE && word == 0x3EF1);
+    CHECK(pankholim_code(word) == 'q' && pankholim_set_of(word) == PANKHOLIM_SPECIAL_GRAPHICS);
+    CHECK(pankholim_is_bold(word) && pankholim_is_underlined(word) && pankholim_is_blinking(word));
+    CHECK(pankholim_is_reversed(word) && pankholim_is_protected(word));
+    CHECK(feed(1920, "\033[0;1m\033[0\"q\033.A\351", 0) == PANKHOLIM_DONE);
+    CHECK(read_word(1920, 1, 2, &word) == PANKHOLIM_DONE && word == 0x03E9);
+    CHECK(pankholim_code(word) == 0x69 && pankholim_set_of(word) == PANKHOLIM_LATIN_1);
+    CHECK(pankholim_is_bold(word) && !pankholim_is_underlined(word) && !pankholim_is_blinking(word));
+    CHECK(!pankholim_is_reversed(word) && !pankholim_is_protected(word));
+    CHECK(!pankholim_row_changed(1, 0) && pankholim_row_changed(1, 1) && !pankholim_row_changed(1, 65));
+    CHECK(pankholim_row_changed((uint64_t)1 << 47, 48) && !pankholim_row_changed(~(uint64_t)0, (size_t)-1));
+}
+
+/* ---- the page as text */
+
+static uint8_t write_text(size_t cells, size_t room, size_t *length)
+{
+    uint8_t answer;
+
+    memset(text_bytes, BYTE_GUARD, sizeof text_bytes);
+    *length = 12345;
+    answer = pankholim_write_text(page, cells, text, room, length);
+    CHECK(is_left(text_bytes, answer == PANKHOLIM_DONE ? *length : 0));
+    return answer;
+}
+
+static int text_is(const char *expected, size_t cells)
+{
+    size_t length = strlen(expected);
+    size_t written;
+
+    return pankholim_text_len(page, cells) == length && write_text(cells, length, &written) == PANKHOLIM_DONE
+           && written == length && memcmp(text, expected, length) == 0;
+}
+
+static void test_text(void)
+{
+    size_t room, length, i;
+
+    start_well(24);
+    CHECK(feed(1920, "Hi\033(0q\032", 0) == PANKHOLIM_DONE);
+    CHECK(text_is("Hi\342\224\200\342\220\246\n\n", 160));
+    CHECK(text_is("Hi\342\224\200\342\220\246\n", 159));
+    CHECK(text_is("Hi\342\224\200\342\220\246\n\n\n\n\n\n\n\n\n\n\n\n\n\n\n\n\n\n\n\n\n\n\n\n", 1920));
+    CHECK(pankholim_text_len(page, 0) == 0 && pankholim_text_len(page, 79) == 0);
+    CHECK(write_text(0, 0, &length) == PANKHOLIM_DONE && length == 0);
+    CHECK(write_text(79, 0, &length) == PANKHOLIM_DONE && length == 0);
+    for (room = 0; room < 10; room++)
+        CHECK(write_text(160, room, &length) == PANKHOLIM_NO_ROOM && length == 10);
+    CHECK(write_text(160, 10, &length) == PANKHOLIM_DONE && length == 10);
+    CHECK(write_text(160, MAX_BYTES, &length) == PANKHOLIM_DONE && length == 10);
+    /* The longest text: three bytes for each cell. */
+    for (i = 0; i < 3840; i++)
+        page[i] = 0x00F1;
+    CHECK(pankholim_text_len(page, 3840) == PANKHOLIM_TEXT_ROOM(48));
+    CHECK(write_text(3840, PANKHOLIM_TEXT_ROOM(48), &length) == PANKHOLIM_DONE);
+}
+
+/* Every word is safe to write. */
+static void test_text_of_every_word(void)
+{
+    unsigned long word;
+    size_t i, length;
+
+    set_up();
+    for (word = 0; word < 65536; word += 80) {
+        for (i = 0; i < 80; i++)
+            page[i] = (uint16_t)(word + i);
+        CHECK(write_text(80, MAX_BYTES, &length) == PANKHOLIM_DONE);
+        CHECK(length == pankholim_text_len(page, 80) && length <= PANKHOLIM_TEXT_ROOM(1));
+        CHECK(length > 0 && text[length - 1] == '\n' && memchr(text, '\n', length) == text + length - 1);
+    }
+}
+
+/* ---- records are plain bytes, and there is one for each terminal */
+
+static void test_copies(void)
+{
+    static uint16_t other_page[1920];
+    pankholim_terminal other;
+    size_t other_read, other_replied;
+    uint64_t rows;
+    uint32_t count;
+
+    start_well(24);
+    CHECK(feed(1920, "Firmware \033[3;7", 0) == PANKHOLIM_DONE);
+    other = record.terminal;
+    memcpy(other_page, page, sizeof other_page);
+    CHECK(feed(1920, "H1.10", 0) == PANKHOLIM_DONE && asks(5, 2));
+    CHECK(pankholim_feed(&other, other_page, 1920, (const uint8_t *)"7H2.1", 5, reply, 0, &other_read,
+                         &other_replied) == PANKHOLIM_DONE);
+    CHECK(pankholim_ask(&other, &rows, &count) == PANKHOLIM_DONE && rows == 5 && count == 2);
+    CHECK(page[PANKHOLIM_INDEX(3, 7)] == '1' && other_page[PANKHOLIM_INDEX(3, 77)] == '2');
+    CHECK(page[PANKHOLIM_INDEX(3, 77)] == ' ' && other_page[PANKHOLIM_INDEX(3, 7)] == ' ');
+}
+
+/* ---- streams of random bytes, cut anywhere, with any room */
+
+/* A byte of a stream: often part of a sequence. */
+static uint8_t random_byte(void)
+{
+    static const char parts[] = "\033\033[[[;;0123456789?!\"#()HJKLMPXm@rhlgnc\n\r\b\tAB";
+
+    return (uint8_t)(below(3) == 0 ? below(256) : (unsigned)(uint8_t)parts[below(sizeof parts - 1)]);
+}
+
+static void test_streams(void)
+{
+    static const uint8_t good[] = { 24, 36, 48 };
+    static uint8_t stream[1000];
+    static uint8_t sent[2][MAX_BYTES];
+    static uint16_t pages[2][PANKHOLIM_CELLS(48)];
+    unsigned round;
+
+    for (round = 0; round < 300; round++) {
+        uint8_t rows = good[round % 3];
+        size_t cells = PANKHOLIM_CELLS((size_t)rows);
+        size_t length[2] = { 0, 0 };
+        uint64_t changed[2] = { 0, 0 };
+        unsigned pass;
+        size_t i;
+
+        for (i = 0; i < sizeof stream; i++)
+            stream[i] = random_byte();
+        for (pass = 0; pass < 2; pass++) {
+            size_t at = 0;
+
+            start_well(rows);
+            while (at < sizeof stream) {
+                size_t piece = pass == 0 ? sizeof stream : 1 + below(40);
+                size_t room = pass == 0 ? MAX_BYTES : below(2 * PANKHOLIM_REPLY_ROOM);
+                uint64_t more;
+                uint32_t count;
+                uint8_t answer;
+
+                if (piece > sizeof stream - at)
+                    piece = sizeof stream - at;
+                answer = feed_bytes(cells, stream + at, piece, room);
+                CHECK(answer == PANKHOLIM_DONE ? read_count == piece : answer == PANKHOLIM_NO_ROOM);
+                CHECK(read_count > 0 || room < PANKHOLIM_REPLY_ROOM);
+                memcpy(sent[pass] + length[pass], reply, replied);
+                length[pass] += replied;
+                at += read_count;
+                CHECK(ask(&more, &count) == PANKHOLIM_DONE && more >> rows == 0);
+                changed[pass] |= more;
+            }
+            memcpy(pages[pass], page, cells * sizeof(uint16_t));
+        }
+        CHECK(length[0] == length[1] && memcmp(sent[0], sent[1], length[0]) == 0);
+        CHECK(memcmp(pages[0], pages[1], cells * sizeof(uint16_t)) == 0);
+        CHECK(changed[0] == changed[1]);
+    }
+}
+
+/* ---- the captures */
+
+static size_t load(const char *folder, const char *name, const char *ending, uint8_t *into)
+{
+    char path[4096];
+    FILE *file;
+    size_t length;
+
+    snprintf(path, sizeof path, "%s/%s%s", folder, name, ending);
+    file = fopen(path, "rb");
+    CHECK(file != NULL);
+    length = fread(into, 1, MAX_BYTES, file);
+    CHECK(length < MAX_BYTES && !ferror(file));
+    fclose(file);
+    return length;
+}
+
+/* Feeds a capture in pieces of one size, with just the room that guarantees progress. */
+static void check_capture(const uint8_t *input, size_t length, const uint8_t *expected, size_t size, size_t piece)
+{
+    size_t at = 0, written;
+
+    start_well(24);
+    while (at < length) {
+        size_t next = piece < length - at ? piece : length - at;
+        uint8_t answer = feed_bytes(1920, input + at, next, PANKHOLIM_REPLY_ROOM);
+
+        CHECK(answer == PANKHOLIM_DONE || answer == PANKHOLIM_NO_ROOM);
+        CHECK(read_count > 0);
+        at += read_count;
+    }
+    CHECK(write_text(1920, MAX_BYTES, &written) == PANKHOLIM_DONE);
+    CHECK(written == size && memcmp(text, expected, size) == 0);
+}
+
+static void test_captures(const char *folder)
+{
+    static const char *const names[] = { "boot", "damaged", "edge", "editing", "eightbit", "firmware", "form", "log",
+                                         "margins", "menu", "sets", "status", "strings" };
+    static uint8_t input[MAX_BYTES], expected[MAX_BYTES];
+    size_t i;
+
+    for (i = 0; i < sizeof names / sizeof names[0]; i++) {
+        size_t length = load(folder, names[i], ".bytes", input);
+        size_t size = load(folder, names[i], ".txt", expected);
+
+        check_capture(input, length, expected, size, length);
+        check_capture(input, length, expected, size, 1);
+        check_capture(input, length, expected, size, 7);
+    }
+}
+
+int main(int argc, char **argv)
+{
+    if (argc != 2) {
+        fprintf(stderr, "usage: %s CAPTURES\n", argv[0]);
+        return 2;
+    }
+    test_start();
+    test_start_on_wrong_pages();
+    test_broken_records();
+    test_records_of_any_bytes();
+    test_wrong_pages();
+    test_lengths_of_zero();
+    test_room();
+    test_example_11();
+    test_ask();
+    test_read();
+    test_cells();
+    test_text();
+    test_text_of_every_word();
+    test_copies();
+    test_streams();
+    test_captures(argv[1]);
+    printf("interface: %lu checks passed\n", checks);
+    return 0;
+}

@@ -1,0 +1,172 @@
+/*
+ * Carries out a script of calls (reference/README.md, "The script") through the C interface.
+ *
+ *     script < SCRIPT > OUTPUT
+ *
+ * The output must be what the second program answers, byte for byte.
+ */
+#include <stdio.h>
+#include <stdlib.h>
+#include <string.h>
+
+#include "pankholim.h"
+
+#define BUFFER_WORDS 4096
+#define MOST_ROOM 4096
+#define UNTOUCHED 0xEE
+
+static pankholim_terminal terminal;
+static uint16_t buffer[BUFFER_WORDS];
+static size_t lent;
+
+/* ---- output, lowest byte first */
+
+static void put_number(uint64_t number, unsigned bytes)
+{
+    while (bytes-- > 0) {
+        putchar((int)(number & 0xFF));
+        number >>= 8;
+    }
+}
+
+static void put_bytes(const uint8_t *bytes, size_t length)
+{
+    if (fwrite(bytes, 1, length, stdout) != length)
+        exit(1);
+}
+
+/* ---- the commands */
+
+static size_t at_most(size_t most, unsigned number)
+{
+    return number < most ? number : most;
+}
+
+static void start(unsigned rows, unsigned words)
+{
+    uint8_t answer;
+
+    lent = at_most(BUFFER_WORDS, words);
+    answer = pankholim_start(&terminal, (uint8_t)(rows % 256), buffer, lent);
+    putchar('S');
+    putchar(answer);
+}
+
+/* Is there so much input? */
+static int feed(unsigned length, unsigned most)
+{
+    static uint8_t input[65536], reply[MOST_ROOM];
+    size_t room = at_most(MOST_ROOM, most);
+    size_t read, replied;
+    uint8_t answer;
+
+    if (fread(input, 1, length, stdin) != length)
+        return 0;
+    memset(reply, UNTOUCHED, room);
+    answer = pankholim_feed(&terminal, buffer, lent, input, length, reply, room, &read, &replied);
+    putchar('F');
+    putchar(answer);
+    put_number(read, 2);
+    put_number(replied, 2);
+    put_bytes(reply, room);
+    return 1;
+}
+
+static void ask(void)
+{
+    uint64_t rows;
+    uint32_t count;
+    uint8_t answer = pankholim_ask(&terminal, &rows, &count);
+
+    putchar('A');
+    putchar(answer);
+    put_number(rows, 8);
+    put_number(count, 1);
+}
+
+static void read_cell(unsigned row, unsigned column)
+{
+    uint16_t word;
+    uint8_t answer = pankholim_read(&terminal, buffer, lent, row, column, &word);
+
+    putchar('R');
+    putchar(answer);
+    put_number(word, 2);
+}
+
+static void put_page(void)
+{
+    size_t i;
+
+    putchar('P');
+    for (i = 0; i < lent; i++)
+        put_number(buffer[i], 2);
+}
+
+static void put_text(void)
+{
+    static uint8_t text[PANKHOLIM_TEXT_ROOM(BUFFER_WORDS / PANKHOLIM_COLUMNS)];
+    size_t length;
+
+    if (pankholim_write_text(buffer, lent, text, sizeof text, &length) != PANKHOLIM_DONE)
+        exit(1);
+    putchar('T');
+    put_number(length, 2);
+    put_bytes(text, length);
+}
+
+/* Where the script's fields lie in the record (crates/pankholim/src/record.rt), and which are flags. Only a test
+ * that breaks records needs this. */
+static const struct {
+    unsigned field;
+    size_t at;
+    int is_flag;
+} fields[] = {
+    { 0, 50, 0 },                                           /* R */
+    { 1, 55, 0 }, { 2, 56, 0 }, { 3, 57, 1 },               /* the cursor's row, column and wrap due */
+    { 4, 51, 0 }, { 5, 52, 0 },                             /* T and B */
+    { 6, 60, 1 }, { 7, 61, 1 },                             /* origin and autowrap */
+    { 8, 74, 0 }, { 9, 75, 0 }, { 10, 76, 1 },              /* the saved row, column and wrap due */
+};
+
+static void set_field(unsigned field, unsigned value)
+{
+    uint8_t *record = (uint8_t *)&terminal;
+    uint8_t number = (uint8_t)(value % 256);
+    size_t i;
+
+    for (i = 0; i < sizeof fields / sizeof fields[0]; i++)
+        if (fields[i].field == field)
+            record[fields[i].at] = fields[i].is_flag ? number != 0 : number;
+    if (field == 12)
+        terminal.opaque[0] |= (uint64_t)1 << (value + 63) % 64;
+}
+
+/* Carries out a command; 0 at the script's end. */
+static int carry_out(uint8_t letter, unsigned a, unsigned b)
+{
+    switch (letter) {
+    case 'S': start(a, b); return 1;
+    case 'L': lent = at_most(BUFFER_WORDS, a); return 1;
+    case 'F': return feed(a, b);
+    case 'A': ask(); return 1;
+    case 'R': read_cell(a, b); return 1;
+    case 'P': put_page(); return 1;
+    case 'T': put_text(); return 1;
+    case 'W': if (a < BUFFER_WORDS) buffer[a] = (uint16_t)b; return 1;
+    case 'B': set_field(a, b); return 1;
+    default: return 0;
+    }
+}
+
+int main(void)
+{
+    uint8_t head[5];
+
+    /* Refused: the buffer is no page of 24 rows. */
+    pankholim_start(&terminal, 24, buffer, BUFFER_WORDS);
+    while (fread(head, 1, sizeof head, stdin) == sizeof head
+           && carry_out(head[0], head[1] + 256u * head[2], head[3] + 256u * head[4]))
+        ;
+    return fflush(stdout) == 0 ? 0 : 1;
+}
