@@ -1,6 +1,6 @@
 -- What the calls by value leave, from what their callees promise.
-use mathlib.Core.Path.{_≡_, refl, sym, ap, _∙_}
-use mathlib.Core.Bool.{Bool, true, false, cond, false≢true}
+use mathlib.Core.Path.{_≡_, refl, ap, _∙_}
+use mathlib.Core.Bool.{true, false≢true}
 use mathlib.Core.List.{List}
 use Prim.Native.Nat.{ℕ}
 use Rattle.terminal.specs.declared.Answer.{Answer}
@@ -11,7 +11,7 @@ use Rattle.terminal.specs.declared.Fed.{Fed}
 use Rattle.terminal.specs.declared.Asked.{Asked}
 use Rattle.terminal.specs.declared.CellRead.{CellRead}
 use Rattle.terminal.specs.Answers.{number, refusal}
-use Rattle.terminal.specs.Start.{Start, started}
+use Rattle.terminal.specs.Start.{started}
 use Rattle.terminal.specs.Feed.{Feed, fed, feedGives, feedAnswer}
 use Rattle.terminal.specs.Ask.{asked, askGives, askAnswer}
 use Rattle.terminal.specs.Read.{cellRead}

@@ -1,7 +1,6 @@
 -- A state's record holds that state again, and so does the record that a call leaves.
-use mathlib.Core.Path.{_≡_, refl, sym, ap, _∙_}
+use mathlib.Core.Path.{_≡_, refl, sym, ap}
 use mathlib.Core.Bool.{Bool, true, false, cond, _&&_}
-use mathlib.Core.List.{List}
 use Prim.Native.Nat.{ℕ}
 use lib.Dec.{ltb}
 use Rattle.cells.specs.Cells.{setNumber, setOf}
@@ -13,7 +12,6 @@ use Rattle.device.specs.declared.charsets.Register.the-variants.{G0, G1, G2, G3
 use Rattle.device.specs.declared.charsets.SingleShift.{SingleShift}
 use Rattle.device.specs.declared.charsets.SingleShift.the-variants.{NoShift, Ss2, Ss3}
 use Rattle.device.specs.declared.charsets.Sets.{Sets}
-use Rattle.vt.specs.declared.core.Core.{Core}
 use Rattle.vt.specs.declared.core.Modes.{Modes}
 use Rattle.vt.specs.declared.core.Saved.{Saved}
 use Rattle.device.specs.declared.cursor.Cursor.{Cursor}

@@ -6,8 +6,6 @@ use Prim.Native.Nat.{ℕ}
 use lib.ListN.{length}
 use Rattle.terminal.specs.declared.Answer.{Answer}
 use Rattle.terminal.specs.declared.State.{State}
-use Rattle.terminal.specs.declared.Started.{Started}
-use Rattle.terminal.specs.declared.Fed.{Fed}
 use Rattle.terminal.specs.declared.Asked.{Asked}
 use Rattle.terminal.specs.declared.CellRead.{CellRead}
 use Rattle.terminal.specs.Answers.{number, refusal}
