@@ -1,9 +1,10 @@
 /*
  * Checks every call of the C interface: its answers, what it gives, and that what it must leave is left.
  *
- *     interface CAPTURES
+ *     interface CAPTURE...
  *
- * CAPTURES is the folder of captures. Exits with 0 and the number of checks, or with 1 at the first that fails.
+ * A CAPTURE is a file's name without its ending: CAPTURE.bytes must give CAPTURE.txt. Exits with 0 and the number
+ * of checks, or with 1 at the first that fails.
  */
 #include <stdio.h>
 #include <stdlib.h>
@@ -14,6 +15,7 @@
 #define GUARD 64
 #define MAX_CELLS (PANKHOLIM_CELLS(PANKHOLIM_MAX_ROWS) + 160)
 #define MAX_BYTES 16384
+#define MAX_FILE 1048576
 
 /* Everything that is lent lies between guards. */
 static struct {
@@ -593,17 +595,17 @@ static void test_streams(void)
 
 /* ---- the captures */
 
-static size_t load(const char *folder, const char *name, const char *ending, uint8_t *into)
+static size_t load(const char *name, const char *ending, uint8_t *into)
 {
     char path[4096];
     FILE *file;
     size_t length;
 
-    snprintf(path, sizeof path, "%s/%s%s", folder, name, ending);
+    snprintf(path, sizeof path, "%s%s", name, ending);
     file = fopen(path, "rb");
     CHECK(file != NULL);
-    length = fread(into, 1, MAX_BYTES, file);
-    CHECK(length < MAX_BYTES && !ferror(file));
+    length = fread(into, 1, MAX_FILE, file);
+    CHECK(length < MAX_FILE && !ferror(file));
     fclose(file);
     return length;
 }
@@ -626,27 +628,23 @@ static void check_capture(const uint8_t *input, size_t length, const uint8_t *ex
     CHECK(written == size && memcmp(text, expected, size) == 0);
 }
 
-static void test_captures(const char *folder)
+static void test_capture(const char *name)
 {
-    static const char *const names[] = { "boot", "damaged", "edge", "editing", "eightbit", "firmware", "form", "log",
-                                         "margins", "menu", "sets", "status", "strings" };
-    static uint8_t input[MAX_BYTES], expected[MAX_BYTES];
-    size_t i;
+    static uint8_t input[MAX_FILE], expected[MAX_FILE];
+    size_t length = load(name, ".bytes", input);
+    size_t size = load(name, ".txt", expected);
 
-    for (i = 0; i < sizeof names / sizeof names[0]; i++) {
-        size_t length = load(folder, names[i], ".bytes", input);
-        size_t size = load(folder, names[i], ".txt", expected);
-
-        check_capture(input, length, expected, size, length);
-        check_capture(input, length, expected, size, 1);
-        check_capture(input, length, expected, size, 7);
-    }
+    check_capture(input, length, expected, size, length);
+    check_capture(input, length, expected, size, 1);
+    check_capture(input, length, expected, size, 7);
 }
 
 int main(int argc, char **argv)
 {
-    if (argc != 2) {
-        fprintf(stderr, "usage: %s CAPTURES\n", argv[0]);
+    int i;
+
+    if (argc < 2) {
+        fprintf(stderr, "usage: %s CAPTURE...\n", argv[0]);
         return 2;
     }
     test_start();
@@ -664,7 +662,8 @@ int main(int argc, char **argv)
     test_text_of_every_word();
     test_copies();
     test_streams();
-    test_captures(argv[1]);
-    printf("interface: %lu checks passed\n", checks);
+    for (i = 1; i < argc; i++)
+        test_capture(argv[i]);
+    printf("%lu checks passed, %d captures among them\n", checks, argc - 1);
     return 0;
 }
