@@ -1,9 +1,10 @@
 /*
  * Checks every call of the C interface: its answers, what it gives, and that what it must leave is left.
  *
- *     interface CAPTURES
+ *     interface CAPTURE...
  *
- * CAPTURES is the folder of captures. Exits with 0 and the number of checks, or with 1 at the first that fails.
+ * A CAPTURE is a file's name without its ending: CAPTURE.bytes must give CAPTURE.txt. Exits with 0 and the number
+ * of checks, or with 1 at the first that fails.
  */
 #include <stdio.h>
 #include <stdlib.h>
@@ -14,6 +15,7 @@
 #define GUARD 64
 #define MAX_CELLS (PANKHOLIM_CELLS(PANKHOLIM_MAX_ROWS) + 160)
 #define MAX_BYTES 16384
+#define MAX_FILE 1048576
 
 /* Everything that is lent lies between guards. */
 static struct {
@@ -543,67 +545,80 @@ static uint8_t random_byte(void)
     return (uint8_t)(below(3) == 0 ? below(256) : (unsigned)(uint8_t)parts[below(sizeof parts - 1)]);
 }
 
+/* All that a terminal shows of a stream. */
+struct seen {
+    uint8_t sent[MAX_BYTES];
+    size_t length;
+    uint16_t page[PANKHOLIM_CELLS(48)];
+    uint64_t changed;
+};
+
+/* Feeds one piece, and returns how much of it was read. */
+static size_t feed_piece(uint8_t rows, const uint8_t *input, size_t length, size_t room, struct seen *seen)
+{
+    uint8_t answer = feed_bytes(PANKHOLIM_CELLS((size_t)rows), input, length, room);
+    uint64_t more;
+    uint32_t count;
+
+    CHECK(answer == PANKHOLIM_DONE ? read_count == length : answer == PANKHOLIM_NO_ROOM);
+    CHECK(read_count > 0 || room < PANKHOLIM_REPLY_ROOM);
+    memcpy(seen->sent + seen->length, reply, replied);
+    seen->length += replied;
+    CHECK(ask(&more, &count) == PANKHOLIM_DONE && more >> rows == 0);
+    seen->changed |= more;
+    return read_count;
+}
+
+/* Feeds a stream to a fresh terminal, at once with all room or in pieces with little. */
+static void feed_stream(uint8_t rows, const uint8_t *stream, size_t length, int in_pieces, struct seen *seen)
+{
+    size_t at = 0;
+
+    memset(seen, 0, sizeof *seen);
+    start_well(rows);
+    while (at < length) {
+        size_t piece = in_pieces ? 1 + below(40) : length;
+        size_t room = in_pieces ? below(2 * PANKHOLIM_REPLY_ROOM) : MAX_BYTES;
+
+        at += feed_piece(rows, stream + at, piece < length - at ? piece : length - at, room, seen);
+    }
+    memcpy(seen->page, page, PANKHOLIM_CELLS((size_t)rows) * sizeof(uint16_t));
+}
+
 static void test_streams(void)
 {
     static const uint8_t good[] = { 24, 36, 48 };
     static uint8_t stream[1000];
-    static uint8_t sent[2][MAX_BYTES];
-    static uint16_t pages[2][PANKHOLIM_CELLS(48)];
+    static struct seen whole, parts;
     unsigned round;
+    size_t i;
 
     for (round = 0; round < 300; round++) {
         uint8_t rows = good[round % 3];
-        size_t cells = PANKHOLIM_CELLS((size_t)rows);
-        size_t length[2] = { 0, 0 };
-        uint64_t changed[2] = { 0, 0 };
-        unsigned pass;
-        size_t i;
 
         for (i = 0; i < sizeof stream; i++)
             stream[i] = random_byte();
-        for (pass = 0; pass < 2; pass++) {
-            size_t at = 0;
-
-            start_well(rows);
-            while (at < sizeof stream) {
-                size_t piece = pass == 0 ? sizeof stream : 1 + below(40);
-                size_t room = pass == 0 ? MAX_BYTES : below(2 * PANKHOLIM_REPLY_ROOM);
-                uint64_t more;
-                uint32_t count;
-                uint8_t answer;
-
-                if (piece > sizeof stream - at)
-                    piece = sizeof stream - at;
-                answer = feed_bytes(cells, stream + at, piece, room);
-                CHECK(answer == PANKHOLIM_DONE ? read_count == piece : answer == PANKHOLIM_NO_ROOM);
-                CHECK(read_count > 0 || room < PANKHOLIM_REPLY_ROOM);
-                memcpy(sent[pass] + length[pass], reply, replied);
-                length[pass] += replied;
-                at += read_count;
-                CHECK(ask(&more, &count) == PANKHOLIM_DONE && more >> rows == 0);
-                changed[pass] |= more;
-            }
-            memcpy(pages[pass], page, cells * sizeof(uint16_t));
-        }
-        CHECK(length[0] == length[1] && memcmp(sent[0], sent[1], length[0]) == 0);
-        CHECK(memcmp(pages[0], pages[1], cells * sizeof(uint16_t)) == 0);
-        CHECK(changed[0] == changed[1]);
+        feed_stream(rows, stream, sizeof stream, 0, &whole);
+        feed_stream(rows, stream, sizeof stream, 1, &parts);
+        CHECK(whole.length == parts.length && memcmp(whole.sent, parts.sent, whole.length) == 0);
+        CHECK(memcmp(whole.page, parts.page, sizeof whole.page) == 0);
+        CHECK(whole.changed == parts.changed);
     }
 }
 
 /* ---- the captures */
 
-static size_t load(const char *folder, const char *name, const char *ending, uint8_t *into)
+static size_t load(const char *name, const char *ending, uint8_t *into)
 {
     char path[4096];
     FILE *file;
     size_t length;
 
-    snprintf(path, sizeof path, "%s/%s%s", folder, name, ending);
+    snprintf(path, sizeof path, "%s%s", name, ending);
     file = fopen(path, "rb");
     CHECK(file != NULL);
-    length = fread(into, 1, MAX_BYTES, file);
-    CHECK(length < MAX_BYTES && !ferror(file));
+    length = fread(into, 1, MAX_FILE, file);
+    CHECK(length < MAX_FILE && !ferror(file));
     fclose(file);
     return length;
 }
@@ -626,27 +641,23 @@ static void check_capture(const uint8_t *input, size_t length, const uint8_t *ex
     CHECK(written == size && memcmp(text, expected, size) == 0);
 }
 
-static void test_captures(const char *folder)
+static void test_capture(const char *name)
 {
-    static const char *const names[] = { "boot", "damaged", "edge", "editing", "eightbit", "firmware", "form", "log",
-                                         "margins", "menu", "sets", "status", "strings" };
-    static uint8_t input[MAX_BYTES], expected[MAX_BYTES];
-    size_t i;
+    static uint8_t input[MAX_FILE], expected[MAX_FILE];
+    size_t length = load(name, ".bytes", input);
+    size_t size = load(name, ".txt", expected);
 
-    for (i = 0; i < sizeof names / sizeof names[0]; i++) {
-        size_t length = load(folder, names[i], ".bytes", input);
-        size_t size = load(folder, names[i], ".txt", expected);
-
-        check_capture(input, length, expected, size, length);
-        check_capture(input, length, expected, size, 1);
-        check_capture(input, length, expected, size, 7);
-    }
+    check_capture(input, length, expected, size, length);
+    check_capture(input, length, expected, size, 1);
+    check_capture(input, length, expected, size, 7);
 }
 
 int main(int argc, char **argv)
 {
-    if (argc != 2) {
-        fprintf(stderr, "usage: %s CAPTURES\n", argv[0]);
+    int i;
+
+    if (argc < 2) {
+        fprintf(stderr, "usage: %s CAPTURE...\n", argv[0]);
         return 2;
     }
     test_start();
@@ -664,7 +675,8 @@ int main(int argc, char **argv)
     test_text_of_every_word();
     test_copies();
     test_streams();
-    test_captures(argv[1]);
-    printf("interface: %lu checks passed\n", checks);
+    for (i = 1; i < argc; i++)
+        test_capture(argv[i]);
+    printf("%lu checks passed, %d captures among them\n", checks, argc - 1);
     return 0;
 }
