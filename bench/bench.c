@@ -130,43 +130,54 @@ static int measure_streams(uint8_t *bytes)
     return same;
 }
 
-/* ---- one scroll of the whole page */
+/* ---- one scroll of the whole page, up or down: as many in a call as the page has rows */
 
-enum { SCROLLS = 8, TIMINGS = 2000 };
+enum { SCROLLS = ROWS, TIMINGS = 2000, LF = 0x0A, RI = 0x8D };
 
 static uint16_t page[PANKHOLIM_CELLS(ROWS)];
 static uint16_t drawn[PANKHOLIM_CELLS(ROWS)];
 static pankholim_terminal terminal;
 
-static void scroll_ours(void)
+static void feed_terminal(const uint8_t *bytes, size_t length)
 {
-    static const uint8_t line_feeds[SCROLLS] = "\n\n\n\n\n\n\n\n";
     uint8_t reply[1];
     size_t read, replied;
 
-    pankholim_feed(&terminal, page, PANKHOLIM_CELLS(ROWS), line_feeds, SCROLLS, reply, 0, &read, &replied);
+    pankholim_feed(&terminal, page, PANKHOLIM_CELLS(ROWS), bytes, length, reply, 0, &read, &replied);
 }
 
-static void scroll_by_memmove(void)
+static void scroll_ours(int byte)
 {
+    uint8_t bytes[SCROLLS];
+
+    memset(bytes, byte, sizeof bytes);
+    feed_terminal(bytes, sizeof bytes);
+}
+
+static void scroll_by_memmove(int byte)
+{
+    uint16_t *to = byte == LF ? page : page + COLUMNS;
+    uint16_t *from = byte == LF ? page + COLUMNS : page;
+    uint16_t *blank = byte == LF ? page + (ROWS - 1) * COLUMNS : page;
     int i, column;
 
     for (i = 0; i < SCROLLS; i++) {
-        memmove(page, page + COLUMNS, (ROWS - 1) * COLUMNS * sizeof page[0]);
+        memmove(to, from, (ROWS - 1) * COLUMNS * sizeof page[0]);
         for (column = 0; column < COLUMNS; column++)
-            page[(ROWS - 1) * COLUMNS + column] = PANKHOLIM_BLANK;
+            blank[column] = PANKHOLIM_BLANK;
         /* The page is looked at after each. */
         __asm__ volatile("" : : "r"(page) : "memory");
     }
 }
 
-static void scroll_nothing(void)
+static void scroll_nothing(int byte)
 {
+    (void)byte;
     __asm__ volatile("" : : "r"(page) : "memory");
 }
 
 /* The median time of some scrolls, each from the drawn page. */
-static double time_scrolls(void (*scroll)(void))
+static double time_scrolls(void (*scroll)(int), int byte)
 {
     static double times[TIMINGS];
     int i;
@@ -176,22 +187,22 @@ static double time_scrolls(void (*scroll)(void))
 
         memcpy(page, drawn, sizeof page);
         from = now();
-        scroll();
+        scroll(byte);
         times[i] = now() - from;
     }
     qsort(times, TIMINGS, sizeof times[0], by_size);
     return times[TIMINGS / 2];
 }
 
-static void measure_scroll(const char *name)
+static void measure_scroll(const char *name, int byte)
 {
     struct times my = { { 0 }, 0 }, their = { { 0 }, 0 };
 
     while (my.rounds < options.rounds) {
-        double nothing = time_scrolls(scroll_nothing);
+        double nothing = time_scrolls(scroll_nothing, byte);
 
-        my.all[my.rounds++] = (time_scrolls(scroll_ours) - nothing) / SCROLLS;
-        their.all[their.rounds++] = (time_scrolls(scroll_by_memmove) - nothing) / SCROLLS;
+        my.all[my.rounds++] = (time_scrolls(scroll_ours, byte) - nothing) / SCROLLS;
+        their.all[their.rounds++] = (time_scrolls(scroll_by_memmove, byte) - nothing) / SCROLLS;
     }
     sort_times(&my);
     sort_times(&their);
@@ -200,20 +211,21 @@ static void measure_scroll(const char *name)
 
 static void measure_scrolls(void)
 {
-    static const uint8_t bottom[] = "\033[24H";
-    uint8_t reply[1];
-    size_t read, replied, i;
+    static const uint8_t bottom[] = "\033[24H", top[] = "\033[H";
+    size_t i;
 
     printf("One scroll of all %d rows, nanoseconds (median of %u rounds of %d times %d)\n\n", ROWS, options.rounds,
            TIMINGS, SCROLLS);
     printf("%-22s %9s %9s %9s\n", "page", "ours", "memmove", "ratio");
     pankholim_start(&terminal, ROWS, page, PANKHOLIM_CELLS(ROWS));
-    pankholim_feed(&terminal, page, PANKHOLIM_CELLS(ROWS), bottom, sizeof bottom - 1, reply, 0, &read, &replied);
+    feed_terminal(bottom, sizeof bottom - 1);
     memcpy(drawn, page, sizeof drawn);
-    measure_scroll("blank");
+    measure_scroll("blank, up", LF);
     for (i = 0; i < PANKHOLIM_CELLS(ROWS); i++)
         drawn[i] = (uint16_t)('!' + (7 * (i / COLUMNS) + i % COLUMNS) % 94);
-    measure_scroll("rows of text");
+    measure_scroll("rows of text, up", LF);
+    feed_terminal(top, sizeof top - 1);
+    measure_scroll("rows of text, down", RI);
     printf("\n");
 }
 
