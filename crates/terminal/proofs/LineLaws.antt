@@ -9,17 +9,24 @@ use lib.Dec.{eqb, leb}
 use lib.ListN.{length}
 use denote.Enum.Declared.{tagOf}
 use types.Run.{OneOf, miss}
-use borrow.Author.Tests.{leb-true, le-leb, lt-leb, ne-eqb, not-true}
+use borrow.Author.Tests.{le-leb, lt-leb, lt-ltb, ne-eqb, not-true}
+use Rattle.cells.specs.declared.Edit.{Edit}
 use Rattle.cells.specs.declared.Edit.the-variants.{Keep, Put, InsertCells}
 use Rattle.cells.specs.Writes.{BlockFits, Edited, Fits, Applied}
+use Rattle.cells.specs.Edits.{Within}
 use Rattle.cells.proofs.EditLaws.{keep-applied}
 use Rattle.cells.proofs.ChangeLaws.{changed-none}
 use Rattle.cells.proofs.Redoing.{edited-applied}
 use Rattle.parser.specs.declared.parser.Phase.{Phase}
 use Rattle.parser.specs.declared.parser.Phase.the-variants.{Ground, Escape, EscapeOne, EscapeTwo, EscapeIgnore, CsiEntry, CsiParam, CsiOne, CsiTwo, CsiIgnore, StringText}
 use Rattle.parser.proofs.parser.Phase as phase
-use Rattle.parser.specs.Parser.{between, decode}
-use Rattle.parser.proofs.Tests.{and-left, and-right, or-cases, between-low, between-high}
+use Rattle.parser.specs.declared.parser.Transition.{Transition}
+use Rattle.parser.specs.declared.parser.Parser.{Parser}
+use Rattle.parser.specs.declared.parser.Action.the-variants.{Control}
+use Rattle.parser.specs.declared.parser.Decoded.{Decoded}
+use Rattle.parser.specs.declared.parser.Op.the-variants.{Execute}
+use Rattle.parser.specs.Parser.{between, to, transition, inPhase, kept, asked, decode}
+use Rattle.parser.proofs.Tests.{and-left, and-right, or-cases, between-low, between-high, at-number}
 use Rattle.device.specs.declared.charsets.SingleShift.{SingleShift}
 use Rattle.device.specs.declared.charsets.SingleShift.the-variants.{NoShift, Ss2, Ss3}
 use Rattle.device.proofs.charsets.SingleShift as shift
@@ -28,15 +35,22 @@ use Rattle.device.specs.ReplyBytes.{replyBytes}
 use Rattle.device.specs.Charsets.{has96}
 use Rattle.vt.specs.declared.core.Core.{Core}
 use Rattle.vt.specs.declared.core.Decision.{Decision}
-use Rattle.vt.specs.Effects.{withCursor, withShift, only, quiet}
-use Rattle.vt.specs.Printing.{usedSet, skipped, glyph, advanced, wrapAndPut, putHere, put, putByte, printed}
-use Rattle.dispatch.specs.Decide.{decided, sends}
+use Rattle.device.specs.declared.cursor.Cursor.{Cursor}
+use Rattle.device.specs.Cursor.{toColumn, index}
+use Rattle.vt.specs.Whole.{Whole}
+use Rattle.vt.specs.Effects.{withCursor, withParser, withShift, only, quiet}
+use Rattle.vt.specs.Controls.{nextLined, indexed, controlled}
+use Rattle.vt.specs.Printing.{usedSet, skipped, indexEdit, glyph, advanced, wrapAndPut, putHere, put, putByte, printed}
+use Rattle.dispatch.specs.Replies.{replyTo}
+use Rattle.dispatch.specs.WrapDue.{clearsWrap, settled}
+use Rattle.dispatch.specs.Decide.{executed, decided, sends}
+use Rattle.sound.proofs.Sound.{decided-sound}
 use Rattle.dispatch.proofs.PlainByte.{graphic, plain-decides, plain-silent}
 use Rattle.terminal.specs.declared.State.{State}
 use Rattle.terminal.specs.Steps.{stepped}
 use Rattle.terminal.specs.Feed.{screen}
 use Rattle.terminal.specs.Ready.{Ready}
-use Rattle.terminal.specs.Spans.{isCharacter, isGround, isUnshifted, plainly}
+use Rattle.terminal.specs.Spans.{isCharacter, isGround, isUnshifted, plainly, lineStart}
 use Rattle.terminal.proofs.FeedLoop.{step-is}
 
 -- ---- what the tests tell
@@ -140,16 +154,91 @@ module _ (c : Core) (b : ℕ) (plain : plainly c ≡ true) (char : isCharacter b
   pub put-decides : c .cursor .wrap ≡ false → only (advanced c (c .cursor)) (Put (c .cursor .row - 1) (c .cursor .column - 1) (glyph c b)) ≡ decided c b
   put-decides w = sym (printed-put ∙ put-here w) ∙ plain-decides c b ground (character-is b char .graphic-is)
 
--- ---- the step
+-- ---- the ends of lines
 
-pub put-step : (s : State) (p q : List ℕ) (b m : ℕ) → Ready s p → plainly (s .core) ≡ true → isCharacter b ≡ true → s .core .cursor .wrap ≡ false → length q ≡ length p
-    → Applied (s .core .rows) (Put (s .core .cursor .row - 1) (s .core .cursor .column - 1) (glyph (s .core) b)) p q m
-    → screen (record { core = advanced (s .core) (s .core .cursor); changed = bitOr (s .changed) m }) q ≡ stepped (screen s p) b
-put-step s p q b m k plain char w el A =
+control-rule : (b : ℕ) → b < 0x18 → transition Ground b ≡ to Ground Execute
+unfolding transition
+control-rule b l =
+    rw (ne-eqb b 0x18 (omega arith), ne-eqb b 0x1A (omega arith), ne-eqb b 0x1B (omega arith), lt-leb 0x80 b (omega arith), lt-ltb b 0x20 (omega arith))
+
+control-decode : (s : Parser) (b : ℕ) → s .phase ≡ Ground → b < 0x18 → decode s b ≡ record { parser = s; action = Control b }
+unfolding decode
+control-decode s b e l =
+    ap (λ (t : Transition). record { parser = kept s (t .next) (t .op) b; action = asked s (t .op) b }) (ap (λ (p : Phase). transition p b) e ∙ control-rule b l)
+    ∙ ap (λ (p : Phase). record { parser = inPhase p s; action = Control b }) (sym e)
+
+plain-ground : (c : Core) → plainly c ≡ true → c .parser .phase ≡ Ground
+plain-ground c h = ground-is (c .parser .phase) (and-left (isGround (c .parser .phase)) (isUnshifted (c .shift) && not (c .modes .insert)) h)
+
+control-decides : (c : Core) (b : ℕ) → plainly c ≡ true → b < 0x18 → executed c (Control b) ≡ decided c b
+unfolding decided
+control-decides c b h l = sym (ap (λ (d : Decoded). executed (withParser c (d .parser)) (d .action)) (control-decode (c .parser) b (plain-ground c h) l))
+
+-- a control sends nothing
+pub control-silent : (c : Core) (b : ℕ) → plainly c ≡ true → b < 0x18 → sends c b ≡ []
+unfolding sends replyTo replyBytes
+control-silent c b h l = ap (λ (d : Decoded). replyBytes (c .modes .eightbit) (replyTo c (d .action))) (control-decode (c .parser) b (plain-ground c h) l)
+
+-- CR
+pub return-decides : (c : Core) → plainly c ≡ true → only (withCursor c (toColumn (c .cursor) 1)) Keep ≡ decided c 0x0D
+unfolding executed clearsWrap controlled
+return-decides c h = control-decides c 0x0D h (omega arith)
+
+-- LF, VT, FF
+abbrev lineFeed : Core → Decision
+lineFeed c = only (withCursor c (index (lineStart c) (c .margins .bottom) (c .rows))) (indexEdit c (lineStart c))
+
+fed-is : (c : Core) (t : Bool)
+    → (let u : Cursor = cond t (toColumn (c .cursor) 1) (c .cursor) in only (withCursor c (index u (c .margins .bottom) (c .rows))) (indexEdit c u))
+    ≡ settled true (cond t (nextLined c) (indexed c))
+fed-is c true = refl
+fed-is c false = refl
+
+line-bytes : (P : ℕ → Type 0) → P 0x0A → P 0x0B → P 0x0C → (b : ℕ) → between 0x0A b 0x0C ≡ true → P b
+line-bytes P x y z b h =
+    let l : 0x0A ≤ b = between-low 0x0A b 0x0C h in
+    let u : b ≤ 0x0C = between-high 0x0A b 0x0C h in
+    at-number P b 0x0A x (λ n. at-number P b 0x0B y (λ m. at-number P b 0x0C z (λ k. absurd (none b l u n m k))))
+  where
+    none : (b : ℕ) → 0x0A ≤ b → b ≤ 0x0C → (b ≡ 0x0A → ⊥) → (b ≡ 0x0B → ⊥) → (b ≡ 0x0C → ⊥) → ⊥
+    none b l u n m k = omega arith
+
+line-executes : (c : Core) (b : ℕ) → between 0x0A b 0x0C ≡ true → lineFeed c ≡ executed c (Control b)
+unfolding executed clearsWrap controlled
+line-executes c = line-bytes (λ (b : ℕ). lineFeed c ≡ executed c (Control b)) (fed-is c (c .modes .newline)) (fed-is c (c .modes .newline)) (fed-is c (c .modes .newline))
+
+pub line-low : (b : ℕ) → between 0x0A b 0x0C ≡ true → b < 0x18
+line-low b e = let u : b ≤ 0x0C = between-high 0x0A b 0x0C e in omega arith
+
+pub line-decides : (c : Core) (b : ℕ) → plainly c ≡ true → between 0x0A b 0x0C ≡ true
+    → only (withCursor c (index (lineStart c) (c .margins .bottom) (c .rows))) (indexEdit c (lineStart c)) ≡ decided c b
+line-decides c b h e =
+    line-executes c b e ∙ control-decides c b h (line-low b e)
+
+-- its scroll stays on the page
+pub line-within : (c : Core) (b : ℕ) → Whole c → plainly c ≡ true → between 0x0A b 0x0C ≡ true → Within (c .rows) (indexEdit c (lineStart c))
+line-within c b w h e = subst (λ (d : Decision). Within (c .rows) (d .first)) (sym (line-decides c b h e)) (decided-sound c b w .first)
+
+pub start-row : (t : Bool) (u : Cursor) → (cond t (toColumn u 1) u) .row ≡ u .row
+start-row true u = refl
+start-row false u = refl
+
+-- ---- a step that moves the cursor and makes one edit
+
+pub one-step : (s : State) (p q : List ℕ) (b m : ℕ) (u : Cursor) (e : Edit) → Ready s p → only (withCursor (s .core) u) e ≡ decided (s .core) b → length q ≡ length p
+    → Applied (s .core .rows) e p q m
+    → screen (record { core = withCursor (s .core) u; changed = bitOr (s .changed) m }) q ≡ stepped (screen s p) b
+one-step s p q b m u e k d el A =
     let c : Core = s .core in
-    let x : Decision = only (advanced c (c .cursor)) (Put (c .cursor .row - 1) (c .cursor .column - 1) (glyph c b)) in
-    ap (λ (n : ℕ). screen (record { core = advanced c (c .cursor); changed = n }) q) (sym (or-zero-r (bitOr (s .changed) m)))
-    ∙ step-is s b p q q x m 0 k (put-decides c b plain char w) (A .page) (A .marked) (sym (keep-applied (c .rows) q (el ∙ k .size))) (sym (changed-none (c .rows) q))
+    ap (λ (n : ℕ). screen (record { core = withCursor c u; changed = n }) q) (sym (or-zero-r (bitOr (s .changed) m)))
+    ∙ step-is s b p q q (only (withCursor c u) e) m 0 k d (A .page) (A .marked) (sym (keep-applied (c .rows) q (el ∙ k .size))) (sym (changed-none (c .rows) q))
+
+-- one that makes none
+pub move-step : (s : State) (p : List ℕ) (b : ℕ) (u : Cursor) → Ready s p → only (withCursor (s .core) u) Keep ≡ decided (s .core) b
+    → screen (record { core = withCursor (s .core) u; changed = s .changed }) p ≡ stepped (screen s p) b
+move-step s p b u k d =
+    ap (λ (n : ℕ). screen (record { core = withCursor (s .core) u; changed = n }) p) (sym (or-zero-r (s .changed)))
+    ∙ one-step s p p b 0 u Keep k d refl (record { page = sym (keep-applied (s .core .rows) p (k .size)); marked = sym (changed-none (s .core .rows) p) })
 
 -- ---- the cell is on the page
 

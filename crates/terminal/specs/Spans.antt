@@ -1,6 +1,6 @@
 -- Bytes of an input that were done and sent nothing. A run of them is done at once, where document 01 has a step for each.
 use mathlib.Core.Path.{_≡_}
-use mathlib.Core.Bool.{Bool, true, false, not, _&&_, _||_}
+use mathlib.Core.Bool.{Bool, true, false, cond, not, _&&_, _||_}
 use mathlib.Core.List.{List, []}
 use Prim.Native.Nat.{ℕ, _≤_}
 use lib.ListN.{length}
@@ -11,6 +11,8 @@ use Rattle.parser.specs.Parser.{between}
 use Rattle.parser.specs.Idle.{span}
 use Rattle.device.specs.declared.charsets.SingleShift.{SingleShift}
 use Rattle.device.specs.declared.charsets.SingleShift.the-variants.{NoShift, Ss2, Ss3}
+use Rattle.device.specs.declared.cursor.Cursor.{Cursor}
+use Rattle.device.specs.Cursor.{toColumn}
 use Rattle.vt.specs.declared.core.Core.{Core}
 use Rattle.vt.specs.Effects.{withCursor, withParser}
 use Rattle.terminal.specs.declared.State.{State}
@@ -63,3 +65,7 @@ isUnshifted Ss3 = false
 -- in ground, no shift pending, insert mode off
 abbrev pub plainly : Core → Bool
 plainly c = isGround (c .parser .phase) && (isUnshifted (c .shift) && not (c .modes .insert))
+
+-- where LF, VT and FF start from
+abbrev pub lineStart : Core → Cursor
+lineStart c = cond (c .modes .newline) (toColumn (c .cursor) 1) (c .cursor)

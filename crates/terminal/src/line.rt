@@ -1,4 +1,5 @@
-// Characters one after the other: they are put at once, as long as nothing but the cursor moves.
+// Characters and the ends of lines: they are done at once, as long as nothing but the cursor moves.
+use cells::edits::apply;
 use cells::edits::put;
 use device::charsets::SingleShift;
 use device::cursor::Cursor;
@@ -6,10 +7,12 @@ use parser::parser::Phase;
 use parser::rules::between;
 use vt::core::Core;
 use vt::printing::glyph;
+use vt::printing::index_edit;
 ghost use mathlib.Core.Path.{_≡_};
-ghost use mathlib.Core.Bool.{Bool, true};
+ghost use mathlib.Core.Bool.{Bool, true, cond};
 ghost use Prim.Native.Nat.{_≤_};
 ghost use lib.ListN.{length};
+ghost use Rattle.device.specs.Cursor.{toColumn};
 ghost use Rattle.terminal.specs.Ready.{Ready};
 ghost use Rattle.terminal.specs.Spans.{isCharacter, isGround, isUnshifted, plainly, moved, Spanned};
 
@@ -18,6 +21,16 @@ pub struct Line {
     pub cursor: Cursor,
     pub changed: u64,
     pub next: usize,
+}
+
+fn stopped(cursor: Cursor, changed: u64, next: usize) -> Line
+    ensures { λ r. ⌜ r ≡ record { cursor = cursor; changed = changed; next = next } ⌝ }
+{
+    Line {
+        cursor,
+        changed,
+        next,
+    }
 }
 
 // A character of every set.
@@ -55,48 +68,57 @@ fn prints_plainly(core: Core) -> bool
     is_ground(phase) & (is_unshifted(shift) & !core.modes.insert)
 }
 
-// Characters until another byte comes or a wrap is due.
-fn print_row(core: Core, changed: u64, page: &mut [u16], input: &[u8], from: usize) -> Line
+// Where a line feed starts from: column 1 in newline mode.
+fn line_start(cursor: Cursor, newline: bool) -> Cursor
+    ensures { λ r. ⌜ r ≡ cond newline (toColumn cursor 1) cursor ⌝ }
+{
+    if newline {
+        return cursor.to_column(1);
+    }
+    cursor
+}
+
+// Characters, CR and LF, VT, FF, until another byte comes or a wrap is due.
+fn print_lines(core: Core, changed: u64, page: &mut [u16], input: &[u8], from: usize) -> Line
     requires { ⌜ Ready (record { core = core; changed = changed }) (now page) × (from ≤ length (now input)) × (plainly core ≡ true) ⌝ }
     ensures { λ r. ⌜ Spanned (record { core = core; changed = changed }) (now (page .entry)) (now (input .entry)) from (r .next) (moved core r) (now (page .exit)) ⌝ }
 {
-    let autowrap = core.modes.autowrap;
+    let modes = core.modes;
+    let margins = core.margins;
     let mut cursor = core.cursor;
     let mut changed = changed;
     let mut i = from;
     while i < input.len() {
         let byte = input[i];
-        if !is_character(byte) | cursor.wrap {
-            return Line {
-                cursor,
-                changed,
-                next: i,
-            };
+        if is_character(byte) & !cursor.wrap {
+            let word = glyph(core, byte);
+            changed |= put(page, cursor.row - 1, cursor.column - 1, word);
+            cursor = cursor.advance(80, modes.autowrap);
+            i += 1;
+        } else if byte == 0x0D {
+            cursor = cursor.to_column(1);
+            i += 1;
+        } else if between(0x0A, byte, 0x0C) {
+            let start = line_start(cursor, modes.newline);
+            let edit = index_edit(margins, start);
+            changed |= apply(edit, page, core.rows);
+            cursor = start.index(margins.bottom, core.rows);
+            i += 1;
+        } else {
+            return stopped(cursor, changed, i);
         }
-        let word = glyph(core, byte);
-        changed |= put(page, cursor.row - 1, cursor.column - 1, word);
-        cursor = cursor.advance(80, autowrap);
-        i += 1;
     }
-    Line {
-        cursor,
-        changed,
-        next: i,
-    }
+    stopped(cursor, changed, i)
 }
 
-// The characters from here on that are just put.
+// As many as there are from here on.
 pub fn print_run(core: Core, changed: u64, page: &mut [u16], input: &[u8], from: usize) -> Line
     requires { ⌜ Ready (record { core = core; changed = changed }) (now page) × (from ≤ length (now input)) ⌝ }
     ensures { λ r. ⌜ Spanned (record { core = core; changed = changed }) (now (page .entry)) (now (input .entry)) from (r .next) (moved core r) (now (page .exit)) ⌝ }
 {
     if prints_plainly(core) {
-        return print_row(core, changed, page, input, from);
+        return print_lines(core, changed, page, input, from);
     }
     let cursor = core.cursor;
-    Line {
-        cursor,
-        changed,
-        next: from,
-    }
+    stopped(cursor, changed, from)
 }

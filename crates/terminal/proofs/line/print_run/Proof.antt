@@ -1,4 +1,4 @@
--- Where characters are not just put, none is.
+-- Where characters are not just put, nothing is done.
 use mathlib.Core.Path.{_≡_, refl, sym, _∙_}
 use borrow.Author.Needs.{needs}
 use Rattle.terminal.proofs.SpanLaws.{spanned-none}
@@ -8,8 +8,8 @@ use Rattle.terminal.proofs.line.print_run.Tie as tie
 prints-plainly-requires : tie.Need-prints-plainly-requires
 prints-plainly-requires c κs = search needs
 
-print-row-requires : tie.Need-print-row-requires
-print-row-requires c κs =
+print-lines-requires : tie.Need-print-lines-requires
+print-lines-requires c κs =
     let yes = c .before in
     let test = yes .before in
     let start = test .before .before .before in
@@ -21,11 +21,14 @@ same-length c = search needs
 returns : tie.Need-returns
 returns c = search needs
 
+stopped-requires : tie.Need-stopped-requires
+stopped-requires c κs = search needs
+
 returns-2 : tie.Need-returns-2
 returns-2 c =
-    let start = c .before .before .before .before .before in
-    spanned-none _ _ _ _ (start .pre .0) (start .pre .1)
+    let start = c .before .before .before .before .before .before in
+    rw (c .stopped .ensures) (spanned-none _ _ _ _ (start .pre .0) (start .pre .1))
 
 pub print-run-spec : {M : Type 1} → statement M
 print-run-spec =
-    tie.close (tie.spec prints-plainly-requires print-row-requires same-length returns returns-2)
+    tie.close (tie.spec prints-plainly-requires print-lines-requires same-length returns stopped-requires returns-2)
