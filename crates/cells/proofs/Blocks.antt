@@ -47,6 +47,16 @@ alike a e a' e' j off on =
 pub block-none : (p : List ℕ) (k : ℕ) (g : ℕ → List ℕ) → Redone p p (between k k) g 0
 block-none p k g = redone-none p (between k k) g (no-block k)
 
+-- each row of it is to be what it is
+pub block-same : (p : List ℕ) (a e : ℕ) (g : ℕ → List ℕ) → ((j : ℕ) → g j ≡ row p j) → Redone p p (between a e) g 0
+block-same p a e g same =
+    redone-as (block-none p a g) (between a e) g
+    (λ j. rw (no-block a j)
+    (⊎-elim
+    (λ (i : (a ≤ j) × (j < e)). rw (in-block a e j (i .0) (i .1)) (sym (same j)))
+    (λ (o : (j < a) ⊎ (e ≤ j)). rw (off-block a e j o))
+    (split-block a e j)))
+
 module _ {p q r : List ℕ} {a e k : ℕ} {g f : ℕ → List ℕ} {bits bits' : ℕ} (R : Redone p q (between a e) g bits) (S : Redone q r (λ j. eqb j k) f bits') (same : f k ≡ g k) where
   next : (a' e' : ℕ) → (k < a) ⊎ (e ≤ k) → (a' ≤ k) × (k < e') → ((j : ℕ) → (j ≡ k → ⊥) → between a' e' j ≡ between a e j) → Redone p r (between a' e') g (bitOr bits bits')
   next a' e' off on others =

@@ -26,12 +26,15 @@ use Rattle.cells.proofs.ChangeLaws.{changed-none, changed-one, changed-
 pub paste-ext : (x : List ℕ) (a : ℕ) (s t : List ℕ) (n : ℕ) → take n s ≡ take n t → paste x a s n ≡ paste x a t n
 paste-ext x a s t n e = ap (λ (l : List ℕ). take a x ++ l ++ drop (a + n) x) e
 
+-- a list's own part changes nothing
+pub paste-self : (x : List ℕ) (a n : ℕ) → paste x a (drop a x) n ≡ x
+paste-self x a n = sym (sym (take-append-drop (a + n) x) ∙ ap (λ (l : List ℕ). l ++ drop (a + n) x) (take-add a n x))
+
 -- a list differs from what a paste makes of it where the part does
 pub differs-paste : (x : List ℕ) (a : ℕ) (s : List ℕ) (n : ℕ) → a + n ≤ length x → n ≤ length s
     → differs x (paste x a s n) ≡ differs (take n (drop a x)) (take n s)
 differs-paste x a s n h hs =
-    let split : x ≡ take a x ++ take n (drop a x) ++ drop (a + n) x = sym (take-append-drop (a + n) x) ∙ ap (λ (l : List ℕ). l ++ drop (a + n) x) (take-add a n x) in
-    ap (λ (l : List ℕ). differs l (paste x a s n)) split
+    ap (λ (l : List ℕ). differs l (paste x a s n)) (sym (paste-self x a n))
     ∙ differs-append (take a x ++ take n (drop a x)) (drop (a + n) x) (take a x ++ take n s) (drop (a + n) x) (simp (length-append, length-take, length-drop) (omega arith))
     ∙ ap₂ (λ (u v : Bool). u || v) (differs-append (take a x) (take n (drop a x)) (take a x) (take n s) refl) (differs-self (drop (a + n) x))
     ∙ or-false (differs (take a x) (take a x) || differs (take n (drop a x)) (take n s))

@@ -1,7 +1,7 @@
 // Rows: columns of one row, and of a block of rows. Each function that writes hands back the bits of
 // the rows that it changed.
 use crate::marks::row_bit;
-use crate::segments::copy_words;
+use crate::segments::copy_columns;
 use crate::segments::erase_words;
 use crate::segments::fill_words;
 ghost use mathlib.Core.Path.{_≡_};
@@ -29,8 +29,22 @@ fn move_row(page: &mut [u16], to: u8, from: u8, left: u8, right: u8) -> u64
         (λ j. overlaid (row (now (page .entry)) j) left right (row (now (page .entry)) from)) r ⌝ }
 {
     let len = (right - left) as usize;
-    let changed = copy_words(page, place(to, left), place(from, left), len);
+    let changed = copy_columns(page, place(to, left), place(from, left), len);
     row_bit(to, changed)
+}
+
+// Columns `left` to `right` of row `to` become those of a row above it, with `gap` rows between the two.
+// The 80 stands beside the gap, so that the compiler sees that the two never overlap.
+fn lower_row(page: &mut [u16], to: u8, gap: u8, left: u8, right: u8) -> u64
+    requires { ⌜ BlockFits (now page) to (to + 1) left right × (gap + 1 ≤ to) ⌝ }
+    ensures { λ r. ⌜ Redone (now (page .entry)) (now (page .exit)) (λ j. eqb j to)
+        (λ j. overlaid (row (now (page .entry)) j) left right (row (now (page .entry)) (to - (gap + 1)))) r ⌝ }
+{
+    let len = (right - left) as usize;
+    let at = place(to, left);
+    let from = at - (80 * (gap as usize) + 80);
+    let moved = copy_columns(page, at, from, len);
+    row_bit(to, moved)
 }
 
 // Columns `left` to `right` of row `at` become `word`.
@@ -77,11 +91,12 @@ pub fn lower_rows(page: &mut [u16], top: u8, end: u8, left: u8, right: u8, count
         (λ j. overlaid (row (now (page .entry)) j) left right (row (now (page .entry)) (j - count))) r ⌝ }
 {
     let mut bits = 0;
-    let mut rest = end - top;
-    while 0 < rest {
-        rest -= 1;
-        let k = top + rest;
-        bits |= move_row(page, k, k - count, left, right);
+    if 0 < count {
+        let mut k = end;
+        while top < k {
+            k -= 1;
+            bits |= lower_row(page, k, count - 1, left, right);
+        }
     }
     bits
 }

@@ -40,18 +40,26 @@ fn copy_downward(page: &mut [u16], to: usize, from: usize, len: usize) -> bool
     changed
 }
 
+// Copies `len` words from `from` to `to`: columns of one row to those of another, so upward is right. A row's
+// length is written out, since a loop of fixed length is faster.
+pub fn copy_columns(page: &mut [u16], to: usize, from: usize, len: usize) -> bool
+    requires { ⌜ (from + len ≤ length (now page)) × (to + len ≤ length (now page)) × ((to ≤ from) ⊎ (from + len ≤ to)) ⌝ }
+    ensures { λ r. ⌜ Pasted (now (page .entry)) (now (page .exit)) to (drop from (now (page .entry))) len r ⌝ }
+{
+    if len == 80 {
+        copy_upward(page, to, from, 80)
+    } else {
+        copy_upward(page, to, from, len)
+    }
+}
+
 // Copies `len` words from `from` to `to`. Upward is faster, and wrong only onto a later place that overlaps.
-// A row's length is written out, since a loop of fixed length is faster too.
 pub fn copy_words(page: &mut [u16], to: usize, from: usize, len: usize) -> bool
     requires { ⌜ (from + len ≤ length (now page)) × (to + len ≤ length (now page)) ⌝ }
     ensures { λ r. ⌜ Pasted (now (page .entry)) (now (page .exit)) to (drop from (now (page .entry))) len r ⌝ }
 {
     if (to <= from) | (from + len <= to) {
-        if len == 80 {
-            copy_upward(page, to, from, 80)
-        } else {
-            copy_upward(page, to, from, len)
-        }
+        copy_upward(page, to, from, len)
     } else {
         copy_downward(page, to, from, len)
     }

@@ -1,6 +1,6 @@
--- The rows from `top + rest` to `end` are done. The row that the next one takes is not done yet, since the loop goes from the last row to the first and takes from above.
+-- The rows from `k` to `end` are done. The row that the next one takes is not done yet, since the loop goes from the last row to the first and takes from above. Rows that go down by none are what they were.
 use borrow.Author.Needs.{needs}
-use mathlib.Core.Path.{refl, ap₂}
+use mathlib.Core.Path.{_≡_, refl, ap, ap₂, _∙_}
 use mathlib.Core.List.{List}
 use mathlib.Core.Logic.{inl}
 use Prim.Native.Nat.{ℕ, _+_, _-_, _≤_}
@@ -8,33 +8,28 @@ use native.Mathlib.Omega.{arith}
 use Rattle.cells.specs.Rows.{row}
 use Rattle.cells.specs.Edits.{overlaid, between}
 use Rattle.cells.specs.Writes.{Redone}
-use Rattle.cells.proofs.Blocks.{block-none, block-down, block-all, block-old}
+use Rattle.cells.proofs.Blocks.{block-none, block-same, block-down, block-all, block-old}
+use Rattle.cells.proofs.Redoing.{paste-self}
 use Rattle.cells.proofs.rows.lower_rows.Statement.{statement}
 use Rattle.cells.proofs.rows.lower_rows.Tie as tie
 
 abbrev Inv-loop : tie.InvT-loop
-Inv-loop page₀ top end left right count bits₀ rest₀ page bits rest = (top + rest ≤ end) × Redone page₀ page (between (top + rest) end) (λ j. overlaid (row page₀ j) left right (row page₀ (j - count))) bits
+Inv-loop page₀ top end left right count bits₀ k₀ page bits k = (top ≤ k) × (k ≤ end) × Redone page₀ page (between k end) (λ j. overlaid (row page₀ j) left right (row page₀ (j - count))) bits
 
 abbrev μ-loop : tie.MeasureT-loop
-μ-loop page₀ top end left right count bits₀ rest₀ page bits rest = rest
-
-sub-rest : tie.Need-sub-rest Inv-loop μ-loop
-sub-rest c = search needs
+μ-loop page₀ top end left right count bits₀ k₀ page bits k = k
 
 loop-holds : tie.Need-loop-holds Inv-loop μ-loop
-loop-holds c = (omega arith, block-all (block-none _ (c .before .args .end) _) (omega arith) refl)
+loop-holds c = (omega arith, omega arith, block-none _ _ _)
 
-sub-rest-2 : tie.Need-sub-rest-2 Inv-loop μ-loop
-sub-rest-2 c = search needs
+sub-k : tie.Need-sub-k Inv-loop μ-loop
+sub-k c = search needs
 
-add-k : tie.Need-add-k Inv-loop μ-loop
-add-k c = search needs
+sub-lower-row : tie.Need-sub-lower-row Inv-loop μ-loop
+sub-lower-row c = search needs
 
-sub-move-row : tie.Need-sub-move-row Inv-loop μ-loop
-sub-move-row c = search needs
-
-move-row-requires : tie.Need-move-row-requires Inv-loop μ-loop
-move-row-requires c κs = search needs
+lower-row-requires : tie.Need-lower-row-requires Inv-loop μ-loop
+lower-row-requires c κs = search needs
 
 loop-less : tie.Need-loop-less Inv-loop μ-loop
 loop-less c = search needs
@@ -43,20 +38,30 @@ loop-again : tie.Need-loop-again Inv-loop μ-loop
 loop-again c =
     let m = c .before .before in
     let l = m .before .before .before in
-    let a = l .before .before .args in
-    let R = l .loop .inv .1 in
-    let k : ℕ = a .top + (l .loop .rest - 1) in (
+    let a = l .before .before .before .args in
+    let R = l .loop .inv .2 in
+    let k : ℕ = l .loop .k - 1 in
+    let up : ℕ = k - (a .count - 1 + 1) in
+    let from : up ≡ k - a .count = omega arith in (
       omega arith,
-      block-down {f = λ j. overlaid (row (l .loop .page) j) (a .left) (a .right) (row (l .loop .page) (k - a .count))} R (m .move-row .ensures)
-          (ap₂ (λ (x y : List ℕ). overlaid x (a .left) (a .right) y) (block-old R k (inl (omega arith))) (block-old R (k - a .count) (inl (omega arith))))
-          (omega arith) (l .loop .inv .0),
+      omega arith,
+      block-down {f = λ j. overlaid (row (l .loop .page) j) (a .left) (a .right) (row (l .loop .page) up)} R (m .lower-row .ensures)
+          (ap₂ (λ (x y : List ℕ). overlaid x (a .left) (a .right) y) (block-old R k (inl (omega arith))) (block-old R up (inl (omega arith)) ∙ ap (row (a .page .now)) from))
+          (omega arith) (l .loop .inv .1),
     )
 
 same-length : tie.Need-same-length Inv-loop μ-loop
 same-length c = search needs
 
 returns : tie.Need-returns Inv-loop μ-loop
-returns c = block-all (c .before .loop .inv .1) (omega arith) refl
+returns c = block-all (c .before .loop .inv .2) (omega arith) refl
+
+returns-2 : tie.Need-returns-2 Inv-loop μ-loop
+returns-2 c =
+    let a = c .before .before .args in
+    let p = a .page .now in
+    let none : (j : ℕ) → j - a .count ≡ j = λ j. omega arith in
+    block-same p _ _ _ (λ j. ap (λ (i : ℕ). overlaid (row p j) (a .left) (a .right) (row p i)) (none j) ∙ paste-self (row p j) (a .left) (a .right - a .left))
 
 pub lower-rows-spec : {M : Type 1} → statement M
 lower-rows-spec =
@@ -64,13 +69,12 @@ lower-rows-spec =
     (tie.spec
     Inv-loop
     μ-loop
-    sub-rest
     loop-holds
-    sub-rest-2
-    add-k
-    sub-move-row
-    move-row-requires
+    sub-k
+    sub-lower-row
+    lower-row-requires
     loop-less
     loop-again
     same-length
-    returns)
+    returns
+    returns-2)

@@ -1,4 +1,8 @@
--- One segment of the row is copied, and its flag is the row's bit.
+-- One segment of the row is copied, and its flag is the row's bit. Two rows are the same one or apart.
+use mathlib.Core.Logic.{inl, inr, ⊎-elim}
+use Prim.Native.Nat.{_≤_, _<_}
+use native.Mathlib.Omega.{arith}
+use Rattle.cells.proofs.Lists.{split-lt}
 use Rattle.cells.proofs.Redoing.{redone-move}
 use borrow.Author.Needs.{needs}
 use Rattle.cells.proofs.rows.move_row.Statement.{statement}
@@ -16,8 +20,10 @@ place-requires c κs = search needs
 place-requires-2 : tie.Need-place-requires-2
 place-requires-2 c κs = search needs
 
-copy-words-requires : tie.Need-copy-words-requires
-copy-words-requires c κs = search needs
+copy-columns-requires : tie.Need-copy-columns-requires
+copy-columns-requires c κs =
+    let a = c .before .before .before .before .args in
+    (omega arith, omega arith, ⊎-elim (λ (b : a .from < a .to). inr (omega arith)) (λ (b : a .to ≤ a .from). inl (omega arith)) (split-lt (a .from) (a .to)))
 
 row-bit-requires : tie.Need-row-bit-requires
 row-bit-requires c κs = search needs
@@ -29,7 +35,7 @@ returns : tie.Need-returns
 returns c =
     let d = c .before .before .before in
     let s = d .before .before .before .before .before in
-    redone-move (s .args .from) (s .pre .0) (s .pre .1) (d .before .before .place .ensures) (d .before .place2 .ensures) (d .copy-words .ensures) (c .row-bit .ensures)
+    redone-move (s .args .from) (s .pre .0) (s .pre .1) (d .before .before .place .ensures) (d .before .place2 .ensures) (d .copy-columns .ensures) (c .row-bit .ensures)
 
 pub move-row-spec : {M : Type 1} → statement M
 move-row-spec =
@@ -39,7 +45,7 @@ move-row-spec =
     cast-len
     place-requires
     place-requires-2
-    copy-words-requires
+    copy-columns-requires
     row-bit-requires
     same-length
     returns)

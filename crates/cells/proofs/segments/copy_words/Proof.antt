@@ -1,10 +1,6 @@
 -- The test tells which of the two directions reads each word before it is stored over.
-use mathlib.Core.Path.{sym, subst}
-use mathlib.Core.Logic.{inl, inr, ⊎-elim}
-use Prim.Native.Nat.{ℕ, _+_, _≤_}
+use Prim.Native.Nat.{_+_}
 use native.Mathlib.Omega.{arith}
-use lib.ListN.{drop}
-use Rattle.cells.specs.Writes.{Pasted}
 use Rattle.cells.proofs.Lists.{either-leb, neither-leb}
 use borrow.Author.Needs.{needs}
 use Rattle.cells.proofs.segments.copy_words.Statement.{statement}
@@ -15,16 +11,7 @@ add-if1 c = search needs
 
 copy-upward-requires : tie.Need-copy-upward-requires
 copy-upward-requires c κs =
-    let i = c .before .before in
-    let a = i .before .before .args in (
-      omega arith,
-      omega arith,
-      ⊎-elim (λ (b : a .to ≤ a .from). inl b) (λ (b : a .from + a .len ≤ a .to). inr (omega arith)) (either-leb (a .to) (a .from) (a .from + a .len) (a .to) (i .if1 .taken)),
-    )
-
-copy-upward-requires-2 : tie.Need-copy-upward-requires-2
-copy-upward-requires-2 c κs =
-    let i = c .before .before in
+    let i = c .before in
     let a = i .before .before .args in
     (search needs, search needs, either-leb (a .to) (a .from) (a .from + a .len) (a .to) (i .if1 .taken))
 
@@ -39,11 +26,7 @@ same-length : tie.Need-same-length
 same-length c = search needs
 
 returns : tie.Need-returns
-returns c =
-    let d = c .before .before in
-    let t = d .before .before in
-    let a = t .before .before .before .args in
-    subst (λ (n : ℕ). Pasted (a .page .now) (d .copy-upward .last .0) (a .to) (drop (a .from) (a .page .now)) n (d .copy-upward .result)) (sym (t .if2 .taken)) (d .copy-upward .ensures)
+returns c = search needs
 
 same-length-2 : tie.Need-same-length-2
 same-length-2 c = search needs
@@ -51,23 +34,14 @@ same-length-2 c = search needs
 returns-2 : tie.Need-returns-2
 returns-2 c = search needs
 
-same-length-3 : tie.Need-same-length-3
-same-length-3 c = search needs
-
-returns-3 : tie.Need-returns-3
-returns-3 c = search needs
-
 pub copy-words-spec : {M : Type 1} → statement M
 copy-words-spec =
     tie.close
     (tie.spec
     add-if1
     copy-upward-requires
-    copy-upward-requires-2
     copy-downward-requires
     same-length
     returns
     same-length-2
-    returns-2
-    same-length-3
-    returns-3)
+    returns-2)
