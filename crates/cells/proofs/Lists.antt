@@ -95,13 +95,6 @@ differs-append [] b (y ∷ c) d e = absurd (omega arith)
 differs-append (x ∷ a) b [] d e = absurd (omega arith)
 differs-append (x ∷ a) b (y ∷ c) d e = rw (differs-append a b c d (omega arith)) (sym (or-assoc (not (eqb x y)) (differs a c) (differs b d)))
 
--- one more place compared
-pub differs-more : (a b : List ℕ) (k : ℕ) → k < length a → k < length b
-    → differs (take (k + 1) a) (take (k + 1) b) ≡ differs (take k a) (take k b) || not (eqb (getD a k 0) (getD b k 0))
-differs-more a b k ha hb =
-    rw (add-one, take-suc a k 0 ha, take-suc b k 0 hb, differs-append (take k a) (getD a k 0 ∷ []) (take k b) (getD b k 0 ∷ []) (simp length-take (omega arith)))
-    (ap (λ (t : Bool). differs (take k a) (take k b) || t) (or-false (not (eqb (getD a k 0) (getD b k 0)))))
-
 -- what a comparison of two lists finds: they are equal, or some place has another word
 pub record Apart (xs ys : List ℕ) : Type 0 where
   pub place : ℕ

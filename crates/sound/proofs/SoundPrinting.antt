@@ -13,7 +13,7 @@ use Rattle.device.specs.declared.cursor.Cursor.{Cursor}
 use Rattle.vt.specs.declared.core.Core.{Core}
 use Rattle.vt.specs.declared.core.Decision.{Decision}
 use Rattle.device.specs.Cursor.{toColumn, index, advance}
-use Rattle.vt.specs.Printing.{usedSet, skipped, shownSet, cellWord, indexEdit, putEdit, advanced, lineStart, nextLine, wrapAndPut, putHere, put, putByte, printed, substituted}
+use Rattle.vt.specs.Printing.{usedSet, skipped, shownSet, cellWord, indexEdit, putEdit, advanced, lineStart, nextLine, wrapAndPut, putHere, put, printed, substituted}
 use Rattle.vt.specs.Effects.{withCursor, withShift}
 use Rattle.parser.proofs.Tests.{either}
 use Rattle.sound.proofs.SoundParts.{OnPage, Scrolls, Parts, WrapOf, Good, good-quiet}

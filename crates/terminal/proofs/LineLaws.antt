@@ -1,5 +1,5 @@
 -- A character that is just put: one step, which sends nothing and moves the cursor on.
-use mathlib.Core.Path.{_≡_, refl, sym, ap, ap₂, _∙_, subst}
+use mathlib.Core.Path.{_≡_, refl, sym, ap, _∙_, subst}
 use mathlib.Core.Bool.{Bool, true, false, cond, not, _&&_, _||_, false≢true, and-false}
 use mathlib.Core.List.{List, [], _∷_}
 use Prim.Native.Nat.{ℕ, _+_, _-_, _*_, _≤_, _<_}
@@ -30,7 +30,6 @@ use Rattle.parser.proofs.Tests.{and-left, and-right, or-cases, between-low, bet
 use Rattle.device.specs.declared.charsets.SingleShift.{SingleShift}
 use Rattle.device.specs.declared.charsets.SingleShift.the-variants.{NoShift, Ss2, Ss3}
 use Rattle.device.proofs.charsets.SingleShift as shift
-use Rattle.device.specs.declared.sending.Reply.{Reply}
 use Rattle.device.specs.ReplyBytes.{replyBytes}
 use Rattle.device.specs.Charsets.{has96}
 use Rattle.vt.specs.declared.core.Core.{Core}
@@ -40,7 +39,7 @@ use Rattle.device.specs.Cursor.{toColumn, index}
 use Rattle.vt.specs.Whole.{Whole}
 use Rattle.vt.specs.Effects.{withCursor, withParser, withShift, only, quiet}
 use Rattle.vt.specs.Controls.{nextLined, indexed, controlled}
-use Rattle.vt.specs.Printing.{usedSet, skipped, indexEdit, glyph, advanced, wrapAndPut, putHere, put, putByte, printed}
+use Rattle.vt.specs.Printing.{usedSet, skipped, indexEdit, glyph, advanced, wrapAndPut, putHere, put, printed}
 use Rattle.dispatch.specs.Replies.{replyTo}
 use Rattle.dispatch.specs.WrapDue.{clearsWrap, settled}
 use Rattle.dispatch.specs.Decide.{executed, decided, sends}
@@ -142,7 +141,7 @@ module _ (c : Core) (b : ℕ) (plain : plainly c ≡ true) (char : isCharacter b
   printed-put : printed c b ≡ put c (glyph c b)
   unfolding printed
   printed-put =
-      ap (λ (t : Bool). cond t (quiet c) (putByte c b (usedSet c b))) unskipped
+      ap (λ (t : Bool). cond t (quiet c) (put (withShift c NoShift) (glyph c b))) unskipped
       ∙ ap (λ (x : SingleShift). put (withShift c x) (glyph c b)) (sym unshifted)
 
   put-here : c .cursor .wrap ≡ false → put c (glyph c b) ≡ only (advanced c (c .cursor)) (Put (c .cursor .row - 1) (c .cursor .column - 1) (glyph c b))

@@ -74,13 +74,9 @@ put c w = cond (c .cursor .wrap) (wrapAndPut c w) (putHere c w)
 
 -- ---- a byte 20 to 7F or A0 to FF, and SUB
 
-abbrev pub putByte : Core → ℕ → CharSet → Decision
-putByte c b s = put (withShift c NoShift) (cellWord c (b % 128) (shownSet s b))
-
 unfoldable pub printed : Core → ℕ → Decision
 printed c b =
-    let s = usedSet c b in
-    cond (skipped s b) (quiet c) (putByte c b s)
+    cond (skipped (usedSet c b) b) (quiet c) (put (withShift c NoShift) (glyph c b))
 
 -- code 1A of ASCII; it uses no set, and a pending shift stays
 unfoldable pub substituted : Core → Decision

@@ -174,8 +174,7 @@ pub fn print(core: Core, byte: u8) -> Decision
     if skipped(set, byte) {
         return quiet(core);
     }
-    let word = cell_word(core, byte % 128, shown_set(set, byte));
-    put(next, word)
+    put(next, glyph(core, byte))
 }
 
 // SUB: code 1A of ASCII. It uses no set, and a pending shift stays.

@@ -1,5 +1,5 @@
 -- Where characters are not just put, nothing is done.
-use mathlib.Core.Path.{_≡_, refl, sym, _∙_}
+use mathlib.Core.Path.{sym, _∙_}
 use borrow.Author.Needs.{needs}
 use Rattle.terminal.proofs.SpanLaws.{spanned-none}
 use Rattle.terminal.proofs.line.print_run.Statement.{statement}

@@ -1,5 +1,5 @@
 -- What is decided is the definition's, its edits stay on the page, and the bits of both are joined.
-use mathlib.Core.Path.{_≡_, sym, ap, _∙_}
+use mathlib.Core.Path.{_≡_, ap, _∙_}
 use Prim.Native.Nat.{ℕ}
 use native.Mathlib.Omega.{arith}
 use Rattle.parser.specs.declared.parser.Decoded.{Decoded}
@@ -9,7 +9,6 @@ use Rattle.vt.specs.declared.core.Decision.{Decision}
 use Rattle.vt.specs.Effects.{withParser}
 use Rattle.dispatch.specs.Decide.{executed, decided}
 use Rattle.sound.proofs.Sound.{decided-sound}
-use Rattle.cells.proofs.EditLaws.{length-applied}
 use Rattle.terminal.proofs.FeedLoop.{step-is}
 use borrow.Author.Needs.{needs}
 use Rattle.terminal.proofs.run.step.Statement.{statement}

@@ -1,5 +1,5 @@
 -- Each way is the definition's, by whether the byte is skipped in its set.
-use mathlib.Core.Path.{_∙_, sym}
+use mathlib.Core.Path.{_∙_}
 use native.Mathlib.Omega.{arith}
 use borrow.Author.Needs.{needs}
 use Rattle.vt.specs.Printing.{printed}
@@ -24,24 +24,20 @@ returns c =
     let t = c .before in
     rw (← t .before .before .before .used-set .ensures, ← t .before .skipped .ensures, t .if1 .taken) (c .quiet .ensures)
 
-shown-set-requires : tie.Need-shown-set-requires
-shown-set-requires c κs = search needs
-
-cell-word-requires : tie.Need-cell-word-requires
-cell-word-requires c κs = search needs
+glyph-requires : tie.Need-glyph-requires
+glyph-requires c κs = search needs
 
 put-requires : tie.Need-put-requires
-put-requires c κs = rw (c .before .before .before .before .without-shift .ensures) (omega arith)
+put-requires c κs = rw (c .before .before .before .without-shift .ensures) (omega arith)
 
 returns-2 : tie.Need-returns-2
 unfolding printed
 returns-2 c =
     let w = c .before in
-    let t = w .before .before in
+    let t = w .before in
     let s = t .before in
     let n = s .before in
-    c .put .ensures
-    ∙ rw (n .without-shift .ensures, w .cell-word .ensures, w .before .shown-set .ensures, ← n .before .used-set .ensures, ← s .skipped .ensures, t .if1 .left)
+    c .put .ensures ∙ rw (n .without-shift .ensures, w .glyph .ensures, ← n .before .used-set .ensures, ← s .skipped .ensures, t .if1 .left)
 
 pub print-spec : {M : Type 1} → statement M
 print-spec =
@@ -52,7 +48,6 @@ print-spec =
     skipped-requires
     quiet-requires
     returns
-    shown-set-requires
-    cell-word-requires
+    glyph-requires
     put-requires
     returns-2)
