@@ -1,6 +1,7 @@
--- A state's record holds that state again, and so does the record that a call leaves.
+-- A state's record holds that state again, and so does the record that a call leaves. The unused bytes are 0 in a state's record, and no part of the state of any.
 use mathlib.Core.Path.{_≡_, refl, sym, ap}
 use mathlib.Core.Bool.{Bool, true, false, cond, _&&_}
+use mathlib.Core.List.{List, [], _∷_}
 use Prim.Native.Nat.{ℕ}
 use lib.Dec.{ltb}
 use Rattle.cells.specs.Cells.{setNumber, setOf}
@@ -190,6 +191,36 @@ rows-back s = ap (λ (t : Bool). cond t (s .core .rows) 0) (state-named s)
 pub state-back : (s : State) → stateOf (recordOf s) ≡ s
 unfolding stateOf recordOf
 state-back s = λ i. record { core = core-back s _ (rows-back s) i; changed = s .changed }
+
+-- ---- the unused bytes
+
+-- a record with others
+abbrev withUnused : Terminal → List ℕ → Terminal
+withUnused t bytes = record {
+  changed = t .changed;
+  values = t .values;
+  tabs = t .tabs;
+  rows = t .rows;
+  top = t .top;
+  bottom = t .bottom;
+  protected = t .protected;
+  shift = t .shift;
+  cursor = t .cursor;
+  modes = t .modes;
+  rendition = t .rendition;
+  sets = t .sets;
+  saved = t .saved;
+  parser = t .parser;
+  unused = bytes;
+}
+
+pub unused-ignored : (t : Terminal) (bytes : List ℕ) → stateOf (withUnused t bytes) ≡ stateOf t
+unfolding stateOf coreOf named
+unused-ignored t bytes = refl
+
+pub unused-zero : (s : State) → recordOf s .unused ≡ 0 ∷ 0 ∷ 0 ∷ []
+unfolding recordOf
+unused-zero s = refl
 
 -- ---- what a call leaves, where a refused one returns the state as it came
 
