@@ -17,9 +17,9 @@ use Rattle.terminal.specs.Ask.{asked, askGives, askAnswer}
 use Rattle.terminal.specs.Read.{cellRead}
 use Rattle.terminal.specs.Ready.{StartedAs, FedAs}
 use Rattle.pankholim.specs.declared.record.Terminal.{Terminal}
-use Rattle.pankholim.specs.Record.{stateOf, recordOf}
+use Rattle.pankholim.specs.Record.{stateOf}
 use Rattle.pankholim.specs.Leaves.{left, StartLeaves, FeedLeaves, AskLeaves, ReadLeaves}
-use Rattle.pankholim.proofs.RecordLaws.{state-back, state-left}
+use Rattle.pankholim.proofs.RecordLaws.{state-left, state-returned}
 
 -- ---- a refused call returns the state as it came
 
@@ -47,14 +47,15 @@ feed-kept s p i o h = fed-kept (feedAnswer s p i o) s p i o h
 
 -- ---- the calls
 
-pub start-leaves : (n : ℕ) (p : List ℕ) (d : Started) (page : List ℕ) (r : ℕ) (u : Terminal)
-    → StartedAs (started n p) d page → r ≡ number (d .answer) → u ≡ recordOf (d .state)
-    → StartLeaves (started n p) r u page
-start-leaves n p d page r u done er eu =
-    let e : u ≡ recordOf (started n p .result .state) = eu ∙ ap (λ (x : Started). recordOf (x .state)) (done .result) in
+pub start-leaves : (t : Terminal) (n : ℕ) (p : List ℕ) (d : Started) (page : List ℕ) (r : ℕ) (u : Terminal)
+    → StartedAs (started n p) d page → r ≡ number (d .answer) → u ≡ left t (d .answer) (d .state)
+    → StartLeaves t (started n p) r u page
+start-leaves t n p d page r u done er eu =
+    let S = started n p in
+    let e : u ≡ left t (S .result .answer) (S .result .state) = eu ∙ ap (λ (x : Started). left t (x .answer) (x .state)) (done .result) in
     record {
       answer-is = er ∙ ap (λ (x : Started). number (x .answer)) (done .result);
-      state-is = ap stateOf e ∙ state-back (started n p .result .state);
+      state-is = ap stateOf e ∙ state-left t (S .result .answer) (S .result .state);
       terminal-is = e;
       page-is = done .page-is;
     }
@@ -67,7 +68,7 @@ ask-leaves t s d r u es ed er eu =
     let e : u ≡ left t (asked (stateOf t) .answer) (asked (stateOf t) .state) = eu ∙ ap (λ (x : Asked). left t (x .answer) (x .state)) is in
     record {
       answer-is = er ∙ ap (λ (x : Asked). number (x .answer)) is;
-      state-is = ap stateOf e ∙ state-left t (asked (stateOf t) .answer) (asked (stateOf t) .state) (ask-kept (stateOf t));
+      state-is = ap stateOf e ∙ state-returned t (asked (stateOf t) .answer) (asked (stateOf t) .state) (ask-kept (stateOf t));
       terminal-is = e;
       rows-is = ap (λ (x : Asked). x .rows) is;
       count-is = ap (λ (x : Asked). x .count) is;
@@ -83,7 +84,7 @@ feed-leaves t s p i o d page reply r u es done er eu =
     let e : u ≡ left t (F .result .answer) (F .result .state) = eu ∙ ap (λ (x : Fed). left t (x .answer) (x .state)) is in
     record {
       answer-is = er ∙ ap (λ (x : Fed). number (x .answer)) is;
-      state-is = ap stateOf e ∙ state-left t (F .result .answer) (F .result .state) (feed-kept (stateOf t) p i o);
+      state-is = ap stateOf e ∙ state-returned t (F .result .answer) (F .result .state) (feed-kept (stateOf t) p i o);
       terminal-is = e;
       page-is = done .page-is ∙ ap (λ (x : Feed). x .page) same;
       reply-is = done .reply-is ∙ ap (λ (x : Feed). x .reply) same;

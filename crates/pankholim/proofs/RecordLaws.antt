@@ -222,11 +222,20 @@ pub unused-zero : (s : State) → recordOf s .unused ≡ 0 ∷ 0 ∷ 0 ∷ []
 unfolding recordOf
 unused-zero s = refl
 
--- ---- what a call leaves, where a refused one returns the state as it came
+-- ---- what a call leaves
 
-pub state-left : (t : Terminal) (a : Answer) (s : State) → (refusal a ≡ true → s ≡ stateOf t) → stateOf (left t a s) ≡ s
-state-left t Done s h = state-back s
-state-left t Broken s h = sym (h refl)
-state-left t WrongSize s h = sym (h refl)
-state-left t NoRoom s h = state-back s
-state-left t OffPage s h = sym (h refl)
+-- refused, the state as it was
+pub state-left : (t : Terminal) (a : Answer) (s : State) → stateOf (left t a s) ≡ cond (refusal a) (stateOf t) s
+state-left t Done s = state-back s
+state-left t Broken s = refl
+state-left t WrongSize s = refl
+state-left t NoRoom s = state-back s
+state-left t OffPage s = refl
+
+-- which is the state returned, where a refused call returns it as it came
+pub state-returned : (t : Terminal) (a : Answer) (s : State) → (refusal a ≡ true → s ≡ stateOf t) → stateOf (left t a s) ≡ s
+state-returned t Done s h = state-back s
+state-returned t Broken s h = sym (h refl)
+state-returned t WrongSize s h = sym (h refl)
+state-returned t NoRoom s h = state-back s
+state-returned t OffPage s h = sym (h refl)

@@ -21,11 +21,12 @@ use Rattle.pankholim.specs.Record.{stateOf, recordOf}
 abbrev pub left : Terminal → Answer → State → Terminal
 left t a s = cond (refusal a) t (recordOf s)
 
--- d is `started` of a number of rows and a page; the number returned, and the record and the page at exit
-pub record StartLeaves (d : Start) (r : ℕ) (terminal : Terminal) (page : List ℕ) : Type 0 where
+-- t is the record at entry, and d is `started` of a number of rows and a page; the number returned, and the record and the page at exit.
+-- Refused, the record is left, and with it its state: the fresh 24-row state that the call by value returns is not stored.
+pub record StartLeaves (t : Terminal) (d : Start) (r : ℕ) (terminal : Terminal) (page : List ℕ) : Type 0 where
   pub answer-is : r ≡ number (d .result .answer)
-  pub state-is : stateOf terminal ≡ d .result .state
-  pub terminal-is : terminal ≡ recordOf (d .result .state)
+  pub state-is : stateOf terminal ≡ cond (refusal (d .result .answer)) (stateOf t) (d .result .state)
+  pub terminal-is : terminal ≡ left t (d .result .answer) (d .result .state)
   pub page-is : page ≡ d .page
 
 -- t is the record at entry, and d is `fed` of its state, a page, the input and a reply buffer; the number returned, and the rest at exit
