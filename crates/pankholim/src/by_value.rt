@@ -55,7 +55,7 @@ fn record_left(terminal: Terminal, answer: Answer, state: State) -> Terminal
     record_of(state)
 }
 
-pub fn start(terminal: Terminal, rows: u8, page: &mut [u16]) -> Left
+pub fn start(terminal: Terminal, rows: usize, page: &mut [u16]) -> Left
     ensures { λ r. ⌜ leaving.StartLeaves terminal (started rows (now (page .entry))) (r .answer) (r .terminal) (now (page .exit)) ⌝ }
 {
     let done = calls::start(rows, page);

@@ -20,7 +20,7 @@ ghost use Rattle.pankholim.specs.Leaves.{StartLeaves, FeedLeaves, AskLea
 
 // Starts a terminal of 24, 36 or 48 rows: every cell blank, the record fresh, whatever it was. Refused, it leaves both.
 #[no_mangle]
-pub extern "C" fn pankholim_start(terminal: &mut Terminal, rows: u8, page: &mut [u16]) -> u8
+pub extern "C" fn pankholim_start(terminal: &mut Terminal, rows: usize, page: &mut [u16]) -> u8
     ensures { λ r. ⌜ StartLeaves (now (terminal .entry)) (started rows (now (page .entry))) r (now (terminal .exit)) (now (page .exit)) ⌝ }
 {
     let left = by_value::start(*terminal, rows, page);
