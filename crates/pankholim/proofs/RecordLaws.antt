@@ -1,4 +1,5 @@
--- A state's record holds that state again, and so does the record that a call leaves. The unused bytes are 0 in a state's record, and no part of the state of any.
+-- A state's record holds that state again, and so does the record that a call leaves.
+-- The unused bytes are 0 in a state's record, and no part of the state of any.
 use mathlib.Core.Path.{_≡_, refl, sym, ap}
 use mathlib.Core.Bool.{Bool, true, false, cond, _&&_}
 use mathlib.Core.List.{List, [], _∷_}
