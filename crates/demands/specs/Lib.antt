@@ -1,3 +1,5 @@
+pub mod Representation
 pub mod Model
 pub mod World
 pub mod Statements
+pub mod Signs
