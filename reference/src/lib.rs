@@ -30,6 +30,6 @@ pub mod state;
 pub mod text;
 
 pub use calls::{ask, feed, read_cell, start};
-pub use parser::Parser;
+pub use parser::{Given, Parser};
 pub use state::{is_whole, Cursor, Saved, Sets, Slot, State};
 pub use text::text;

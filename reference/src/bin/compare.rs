@@ -65,6 +65,7 @@ fn write(seed: &str, script: &Script, directory: &Path) -> ExitCode {
     }
     println!("seed          {seed}");
     println!("commands      {}", script.commands);
+    println!("calls         {}", counts.iter().flatten().sum::<usize>());
     println!("input bytes   {}", script.input);
     println!("script bytes  {}", script.bytes.len());
     println!("output bytes  {}", output.len());
@@ -158,7 +159,7 @@ fn command_in_words(command: &Command) -> String {
         b'S' => format!("S: start with R = {a} on {b} words"),
         b'L' => format!("L: lend {a} words"),
         b'F' => {
-            let input = bytes_in_words(command.input, 2_000);
+            let input = bytes_in_words(command.following, 2_000);
             format!("F: feed {a} bytes with room {b}: {input}")
         }
         b'A' => "A: ask".to_string(),
@@ -167,6 +168,8 @@ fn command_in_words(command: &Command) -> String {
         b'T' => "T: text".to_string(),
         b'W' => format!("W: word {a} is {b:04X}"),
         b'B' => format!("B: field {a} is {b}"),
+        b'Q' => format!("Q: parser {:02X?}", command.following),
+        b'V' => "V: view of the state".to_string(),
         _ => format!("{}", *letter as char),
     }
 }
@@ -213,6 +216,7 @@ fn piece_in_words(bytes: &[u8], length: usize) -> String {
         [b'R', answer, _, _] => format!("answer {answer}, word {:04X}", number(2)),
         [b'P', ..] => "a page".to_string(),
         [b'T', ..] => format!("a text of {} bytes", number(1)),
+        [b'V', fields @ ..] => format!("fields {fields:?}"),
         _ => bytes_in_words(piece, 400),
     }
 }
