@@ -1,6 +1,7 @@
 //! What is compared, as scripts. The fixed parts are always the same; the
 //! streams depend on a seed alone.
 
+use crate::examples;
 use crate::grammar::{stream, Random};
 use crate::parser::Given;
 use crate::script::*;
@@ -41,7 +42,8 @@ pub fn whole(seed: u64, bytes: usize) -> Script {
 pub fn fixed_parts() -> Vec<Script> {
     vec![
         before_any_start(),
-        examples(),
+        document_examples(),
+        examples::script(),
         captures(),
         functions_at_the_edges(),
         bytes_in_each_phase(),
@@ -98,7 +100,7 @@ fn look(s: &mut Script) {
 }
 
 /// Document 01's examples, in each size of page.
-pub fn examples() -> Script {
+pub fn document_examples() -> Script {
     let fed: [&[u8]; 9] = [
         b"\x1B[5;77H1.10",
         b"\x1B[?7h\x1B[5;77H1.10",
@@ -1014,17 +1016,17 @@ pub fn parsers_at_the_edges() -> Script {
     for (number, given) in list.iter().enumerate() {
         let rows = SIZES[number % 3];
         let dropped: &[u8] = match number % 2 {
-            0 => b"\x18a\x1B[;5mb\x1B[6n",
-            _ => b"\x1Bca\x1B[5;;7mb\x1B[6n",
+            0 => b"\x18\x9B;5mb\x9B6n",
+            _ => b"\x1Bc\x9B;7mb\x9B6n",
         };
         s.start_right(rows);
         s.parser(given);
+        s.ask();
         s.feed(b"", 1);
         s.read(1, 1);
-        s.ask();
         s.feed(dropped, ROOM);
         s.view();
-        s.read(1, 2);
+        s.read(1, 1);
     }
     s
 }
@@ -1225,7 +1227,7 @@ pub fn parsers_that_go_on() -> Script {
             };
             for situation in situations {
                 s.start_right(24);
-                s.feed(&origin_insert_wrap(situation), 0);
+                origin_insert_wrap(&mut s, situation);
                 s.parser(&given);
                 s.ask();
                 s.feed(end, ROOM);
@@ -1245,21 +1247,26 @@ pub fn parsers_that_go_on() -> Script {
     s
 }
 
-/// Brings about origin, insert and wrap due, by the bits of the number.
-fn origin_insert_wrap(situation: usize) -> Vec<u8> {
-    let mut bytes = Vec::new();
+/// Origin with margins, insert and wrap due, by the bits of the number, in row 7.
+fn origin_insert_wrap(s: &mut Script, situation: usize) {
+    let column = if situation & 4 != 0 { 80 } else { 40 };
+    for column in near(column) {
+        s.word_at(7, column, word_of(7, column));
+    }
+    s.field(ROW, 7);
+    s.field(COLUMN, column);
     if situation & 1 != 0 {
-        bytes.extend(b"\x1B[5;10r\x1B[?6h");
+        s.field(TOP, 5);
+        s.field(BOTTOM, 10);
+        s.field(ORIGIN, 1);
     }
     if situation & 2 != 0 {
-        bytes.extend(b"\x1B[4h");
+        s.feed(b"\x9B4h", 0);
     }
     if situation & 4 != 0 {
-        bytes.extend(b"\x1B[?7h\x1B[3;79Hyz");
-    } else {
-        bytes.extend(b"\x1B[3;40Hyz");
+        s.field(AUTOWRAP, 1);
+        s.field(WRAP_DUE, 1);
     }
-    bytes
 }
 
 // ---- Wrong lengths ----------------------------------------------------------

@@ -14,7 +14,7 @@ pub const BUFFER_WORDS: usize = 4_096;
 pub const MOST_ROOM: usize = 4_096;
 
 /// What every reply byte is before a feeding.
-const UNTOUCHED: u8 = 0xEE;
+pub const UNTOUCHED: u8 = 0xEE;
 
 /// The fields that `Script::field` names.
 pub const ROWS: u16 = 0;
@@ -42,6 +42,7 @@ pub const VIEW_WRAP_DUE: usize = 3;
 pub const VIEW_TOP: usize = 4;
 pub const VIEW_BOTTOM: usize = 5;
 pub const VIEW_SHOWN: usize = 10;
+pub const VIEW_TABS: usize = 38;
 
 /// A script being built.
 #[derive(Clone, Default)]
