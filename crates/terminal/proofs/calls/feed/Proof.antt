@@ -1,5 +1,5 @@
 -- Each return is the definition's case, by the tests that led there.
-use mathlib.Core.Path.{_≡_, sym, _∙_}
+use mathlib.Core.Path.{sym, _∙_}
 use borrow.Author.Tests.{not-true, not-false}
 use Rattle.terminal.proofs.CallLaws.{state-facts, fed-broken, fed-size, fed-run}
 use borrow.Author.Needs.{needs}
