@@ -7,7 +7,6 @@ use Rattle.cells.specs.declared.CharSet.the-variants.{Ascii, SpecialGraphics, S
 use Rattle.cells.specs.Cells.{unpacked, Printable}
 use Rattle.cells.specs.Rows.{Every}
 use Rattle.text.specs.Text.{sign}
-use Rattle.terminal.specs.Answers.{number}
 use Rattle.terminal.specs.Start.{started}
 use Rattle.demands.specs.Model.{Call, feeding, asking, reading}
 use Rattle.demands.specs.World as W
@@ -25,7 +24,7 @@ AllBytes (x ∷ xs) = InputBytes (x .call) × AllBytes xs
 -- A page was started. After every proper list of calls whose inputs are bytes, every cell of her page holds code 20 to 7E, or 7F of Latin-1,
 -- or 1A of ASCII, which SUB puts, and no unused bit; code 20 is of ASCII or Latin-1.
 abbrev pub PagePrintable : Type 0
-PagePrintable = (r : ℕ) (p : List ℕ) → number (started r p .result .answer) ≡ 0 → (xs : List W.Item) → W.Proper (W.opened r p) xs → AllBytes xs
+PagePrintable = (r : ℕ) (p : List ℕ) → started r p .number ≡ 0 → (xs : List W.Item) → W.Proper (W.opened r p) xs → AllBytes xs
     → Every Printable (W.endsAt (W.opened r p) xs .page)
 
 -- So the text shows each cell of ASCII, and each of Special Graphics below 5F, as its code, but SUB's as U+2426; and "?" only for
@@ -37,5 +36,5 @@ pub record Shows (w : ℕ) : Type 0 where
   pub question : sign w ≡ 0x3F → (unpacked w .set ≡ Supplemental) ⊎ (unpacked w .code ≡ 0x3F)
 
 abbrev pub PageShows : Type 0
-PageShows = (r : ℕ) (p : List ℕ) → number (started r p .result .answer) ≡ 0 → (xs : List W.Item) → W.Proper (W.opened r p) xs → AllBytes xs
+PageShows = (r : ℕ) (p : List ℕ) → started r p .number ≡ 0 → (xs : List W.Item) → W.Proper (W.opened r p) xs → AllBytes xs
     → Every Shows (W.endsAt (W.opened r p) xs .page)
