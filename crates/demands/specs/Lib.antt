@@ -1,3 +1,4 @@
 pub mod Model
 pub mod World
 pub mod Statements
+pub mod WholeEdges
