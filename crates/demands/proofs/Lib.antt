@@ -1,4 +1,5 @@
 pub mod Representation
+pub mod WholeEdges
 pub mod Demand1
 pub mod Demand2
 pub mod Demand3

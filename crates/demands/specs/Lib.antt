@@ -1,4 +1,5 @@
 pub mod Representation
+pub mod WholeEdges
 pub mod Model
 pub mod World
 pub mod Statements
