@@ -135,7 +135,10 @@ pub fn settle(clears: bool, mut decision: Decision) -> Decision
     ensures { λ r. ⌜ r ≡ wrap.settled clears decision ⌝ }
 {
     if clears {
-        decision.core.cursor.wrap = false;
+        let mut core = decision.core;
+        let cursor = core.cursor;
+        core.cursor = cursor.no_wrap();
+        decision.core = core;
         return decision;
     }
     decision
