@@ -1,6 +1,6 @@
 -- Control sequences (document 01, "Functions"), where they are not ignored: dispatch/specs/Heard.antt says what is. Wrap due is in WrapDue.antt
 -- there. An intermediate or a mark that is not there is 0.
-use mathlib.Core.Bool.{Bool, true, false, cond, _&&_, _||_}
+use mathlib.Core.Bool.{Bool, true, false, cond, _||_}
 use mathlib.Core.List.{List, [], _∷_}
 use Prim.Native.Nat.{ℕ, _+_, _-_, _*_, min, max}
 use lib.Dec.{eqb, leb, ltb}

@@ -17,7 +17,8 @@ use Rattle.parser.specs.Params.{param, member}
 use Rattle.parser.specs.Families.{isPlain, isMarked, isProtection, isSoftReset}
 use Rattle.csi.specs.Sequences.{marginsTaken, selectProtection, softReset, plainSequence, markedSequence, sequenced}
 use Rattle.parser.proofs.Tests.{or-left, or-right, at-number}
-use Rattle.dispatch.specs.Heard.{controls, c1Controls, plainEscapes, names94, names96, listedEscape, plainFinals, markedFinals, isSecondary, listedSequence, isListed, plainIgnored, markedIgnored, ignoredSequence, isIgnored, isHeard, heard}
+use Rattle.dispatch.specs.Heard.{controls, c1Controls, plainEscapes, names94, listedEscape, plainFinals, markedFinals, isSecondary, listedSequence}
+use Rattle.dispatch.specs.Heard.{isListed, plainIgnored, markedIgnored, ignoredSequence, isIgnored, isHeard, heard}
 use Rattle.dispatch.specs.WrapDue.{keepsWrap, clearsWrap, settled}
 use Rattle.dispatch.specs.Replies.{plainReply, markedReply, reply, replyTo}
 use Rattle.dispatch.specs.Decide.{effect, executed}
@@ -65,7 +66,7 @@ c1-quiet c b h = rw (o 0x84 refl, o 0x85 refl, o 0x88 refl, o 0x8D refl, o 0x8E 
 escape-quiet : (c : Core) (first second last : ℕ) → listedEscape first second last ≡ false → escaped c first second last ≡ quiet c
 unfolding escaped
 escape-quiet c first second last =
-    at-number P first 0 (λ h. let o = other plainEscapes last h in rw (o 0x37 refl, o 0x38 refl, o 0x63 refl, o 0x6E refl, o 0x6F refl, o 0x7E refl, o 0x7D refl, o 0x7C refl))
+    at-number P first 0 plain
     (λ n1. at-number P first 0x20 (λ h. let f = none-of-two (eqb second 0) (eqb last 0x46) (eqb last 0x47) h in rw (f .0, f .1))
     (λ n2. at-number P first 0x23 (λ h. rw h)
     (λ n3. at-number P first 0x28 (λ h. rw (unnamed h .0, unnamed h .1, unnamed h .2))
@@ -75,10 +76,16 @@ escape-quiet c first second last =
     (λ n7. at-number P first 0x2D (λ h. rw h)
     (λ n8. at-number P first 0x2E (λ h. rw h)
     (λ n9. at-number P first 0x2F (λ h. rw h)
-    (λ n10 h. rw (ne-eqb first 0 n1, ne-eqb first 0x20 n2, ne-eqb first 0x23 n3, ne-eqb first 0x28 n4, ne-eqb first 0x29 n5, ne-eqb first 0x2A n6, ne-eqb first 0x2B n7, ne-eqb first 0x2D n8, ne-eqb first 0x2E n9, ne-eqb first 0x2F n10)))))))))))
+    (λ n10 h. rw (ne-eqb first 0 n1, ne-eqb first 0x20 n2, ne-eqb first 0x23 n3, ne-eqb first 0x28 n4, ne-eqb first 0x29 n5, ne-eqb first 0x2A n6)
+    (rw (ne-eqb first 0x2B n7, ne-eqb first 0x2D n8, ne-eqb first 0x2E n9, ne-eqb first 0x2F n10))))))))))))
   where
     P : ℕ → Type 0
     P x = listedEscape x second last ≡ false → escaped c x second last ≡ quiet c
+
+    plain : P 0
+    plain h =
+        let o = other plainEscapes last h in
+        rw (o 0x37 refl, o 0x38 refl, o 0x63 refl, o 0x6E refl, o 0x6F refl, o 0x7E refl, o 0x7D refl, o 0x7C refl)
 
     unnamed : names94 second last ≡ false
         → ((eqb second 0 && eqb last 0x42) ≡ false) × ((eqb second 0 && eqb last 0x30) ≡ false) × ((eqb second 0x25 && eqb last 0x35) ≡ false)
@@ -86,7 +93,8 @@ escape-quiet c first second last =
 
 plain-quiet : (c : Core) (q : Params) (last : ℕ) → member last plainFinals ≡ false → plainSequence c q last ≡ quiet c
 plain-quiet c q last h =
-    rw (o 0x40 refl, o 0x41 refl, o 0x42 refl, o 0x43 refl, o 0x44 refl, o 0x48 refl, o 0x4A refl, o 0x4B refl, o 0x4C refl, o 0x4D refl, o 0x50 refl, o 0x58 refl, o 0x66 refl, o 0x67 refl, o 0x68 refl, o 0x6C refl, o 0x6D refl, o 0x72 refl)
+    rw (o 0x40 refl, o 0x41 refl, o 0x42 refl, o 0x43 refl, o 0x44 refl, o 0x48 refl, o 0x4A refl, o 0x4B refl, o 0x4C refl)
+    (rw (o 0x4D refl, o 0x50 refl, o 0x58 refl, o 0x66 refl, o 0x67 refl, o 0x68 refl, o 0x6C refl, o 0x6D refl, o 0x72 refl))
   where
     o : (k : ℕ) → member k plainFinals ≡ true → eqb last k ≡ false
     o = other plainFinals last h
@@ -97,10 +105,12 @@ marked-quiet c q last h = rw (o 0x4A refl, o 0x4B refl, o 0x68 refl, o 0x6C refl
     o : (k : ℕ) → member k markedFinals ≡ true → eqb last k ≡ false
     o = other markedFinals last h
 
-sequence-quiet : (c : Core) (q : Params) (mark first second last : ℕ) → listedSequence mark first second last ≡ false → sequenced c q mark first second last ≡ quiet c
+sequence-quiet : (c : Core) (q : Params) (mark first second last : ℕ) → listedSequence mark first second last ≡ false
+    → sequenced c q mark first second last ≡ quiet c
 unfolding sequenced
 sequence-quiet c q mark first second last =
-    go (isPlain mark first second) (isMarked mark first second) (isSecondary mark first second last) (isProtection mark first second last) (isSoftReset mark first second last)
+    go (isPlain mark first second) (isMarked mark first second)
+    (isSecondary mark first second last) (isProtection mark first second last) (isSoftReset mark first second last)
   where
     go : (i j s p r : Bool) → cond i (member last plainFinals) (cond j (member last markedFinals) (cond s true (cond p true r))) ≡ false
         → cond i (plainSequence c q last) (cond j (markedSequence c q last) (cond p (selectProtection c q) (cond r (quiet (softReset c)) (quiet c)))) ≡ quiet c
@@ -171,13 +181,15 @@ unheard-silent c (C1Control b) h = at-number P b 0x9A (λ h. absurd (false≢tru
     P x = isHeard c (C1Control x) ≡ false → reply c (C1Control x) ≡ Silent
 unheard-silent c (EscapeSequence first second last) h = refl
 unheard-silent c (ControlSequence mark first second last) h =
-    go (isPlain mark first second) (isMarked mark first second) (isSecondary mark first second last) (isProtection mark first second last) (isSoftReset mark first second last) h
+    go (isPlain mark first second) (isMarked mark first second)
+    (isSecondary mark first second last) (isProtection mark first second last) (isSoftReset mark first second last) h
   where
     q : Params
     q = c .parser .params
 
     go : (i j s p r : Bool)
-        → (cond i (member last plainFinals) (cond j (member last markedFinals) (cond s true (cond p true r))) && not (cond i (plainIgnored c q last) (j && markedIgnored q last))) ≡ false
+        → (cond i (member last plainFinals) (cond j (member last markedFinals) (cond s true (cond p true r)))
+        && not (cond i (plainIgnored c q last) (j && markedIgnored q last))) ≡ false
         → cond i (plainReply c q last) (cond j (markedReply c q last) (cond (s && eqb (param q 0) 0) SecondaryAttributes Silent)) ≡ Silent
     go true j s p r h = plain-silent c q last h
     go false true s p r h = marked-silent c q last h

@@ -12,7 +12,7 @@ use Rattle.vt.specs.declared.core.Core.{Core}
 use Rattle.parser.specs.Params.{member}
 use Rattle.parser.specs.Families.{isProtection, isSoftReset}
 use Rattle.parser.proofs.Tests.{and-left, and-right, at-number}
-use Rattle.dispatch.specs.Heard.{plainEscapes, listedEscape, markedFinals, isSecondary, isListed, isIgnored, heard}
+use Rattle.dispatch.specs.Heard.{plainEscapes, listedEscape, markedFinals, isSecondary, isListed, isIgnored}
 use Rattle.dispatch.specs.WrapDue.{keepingEscapes, escapeKeeps, markedKeeps, keepsWrap, clearsWrap}
 
 -- ---- two tests that agree at each number below n
@@ -38,7 +38,8 @@ alike-at f g (suc n) e b h =
 -- ---- the families
 
 pub escape-clears : (first second last : ℕ) → last < 256
-    → ((eqb first 0x23 && (eqb second 0 && eqb last 0x38)) || (eqb first 0 && eqb last 0x63)) ≡ (listedEscape first second last && not (escapeKeeps first last))
+    → ((eqb first 0x23 && (eqb second 0 && eqb last 0x38)) || (eqb first 0 && eqb last 0x63))
+    ≡ (listedEscape first second last && not (escapeKeeps first last))
 escape-clears first second last l =
     at-number P first 0 (alike-at (λ (b : ℕ). eqb b 0x63) (λ (b : ℕ). member b plainEscapes && not (member b keepingEscapes)) 256 refl last l)
     (λ n1. at-number P first 0x23 (simp (or-false, and-true))
@@ -50,16 +51,19 @@ escape-clears first second last l =
     (λ n7. at-number P first 0x2D (simp and-false)
     (λ n8. at-number P first 0x2E (simp and-false)
     (λ n9. at-number P first 0x2F (simp and-false)
-    (λ n10. rw (ne-eqb first 0 n1, ne-eqb first 0x23 n2, ne-eqb first 0x20 n3, ne-eqb first 0x28 n4, ne-eqb first 0x29 n5, ne-eqb first 0x2A n6, ne-eqb first 0x2B n7, ne-eqb first 0x2D n8, ne-eqb first 0x2E n9, ne-eqb first 0x2F n10)))))))))))
+    (λ n10. rw (ne-eqb first 0 n1, ne-eqb first 0x23 n2, ne-eqb first 0x20 n3, ne-eqb first 0x28 n4, ne-eqb first 0x29 n5, ne-eqb first 0x2A n6)
+    (rw (ne-eqb first 0x2B n7, ne-eqb first 0x2D n8, ne-eqb first 0x2E n9, ne-eqb first 0x2F n10))))))))))))
   where
     P : ℕ → Type 0
-    P x = ((eqb x 0x23 && (eqb second 0 && eqb last 0x38)) || (eqb x 0 && eqb last 0x63)) ≡ (listedEscape x second last && not (escapeKeeps x last))
+    P x = ((eqb x 0x23 && (eqb second 0 && eqb last 0x38)) || (eqb x 0 && eqb last 0x63))
+        ≡ (listedEscape x second last && not (escapeKeeps x last))
 
 -- with ?, all but J, K, h and l
 pub marked-rest : (q : Params) (last : ℕ) → (last ≡ 0x4A → ⊥) → (last ≡ 0x4B → ⊥) → (last ≡ 0x68 → ⊥) → (last ≡ 0x6C → ⊥)
     → false ≡ (member last markedFinals && not (markedKeeps q last))
 marked-rest q last n1 n2 n3 n4 =
-    rw (ne-eqb last 0x4A n1, ne-eqb last 0x4B n2, ne-eqb last 0x68 n3, ne-eqb last 0x6C n4) (go (eqb last 0x67) (eqb last 0x6D) (eqb last 0x6E) (eqb last 0x63))
+    rw (ne-eqb last 0x4A n1, ne-eqb last 0x4B n2, ne-eqb last 0x68 n3, ne-eqb last 0x6C n4)
+    (go (eqb last 0x67) (eqb last 0x6D) (eqb last 0x6E) (eqb last 0x63))
   where
     go : (g m n c : Bool) → false ≡ ((n || false) && not (g || (m || (n || (c || false)))))
     go true m true c = refl

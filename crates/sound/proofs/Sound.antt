@@ -1,6 +1,6 @@
 -- A byte's step keeps a whole core whole, with as many rows, and its edits stay on the page.
-use mathlib.Core.Path.{_≡_, refl, sym}
-use mathlib.Core.Bool.{Bool, true, false, not}
+use mathlib.Core.Path.{_≡_, refl}
+use mathlib.Core.Bool.{true, false, not}
 use Prim.Native.Nat.{ℕ}
 use borrow.Author.Tests.{not-true}
 use Rattle.parser.specs.declared.parser.Action.{Action}
@@ -11,7 +11,7 @@ use Rattle.vt.specs.Fresh.{freshCore}
 use Rattle.parser.specs.Parser.{decode}
 use Rattle.parser.proofs.Tests.{and-right, either}
 use Rattle.dispatch.specs.Heard.{isListed, isIgnored, isHeard, heard}
-use Rattle.dispatch.specs.WrapDue.{keepsWrap, clearsWrap, settled}
+use Rattle.dispatch.specs.WrapDue.{keepsWrap, clearsWrap}
 use Rattle.vt.specs.Effects.{withParser}
 use Rattle.dispatch.specs.Decide.{effect, executed, decided}
 use Rattle.sound.proofs.SoundParts.{Parts, WrapOf, Good, Sound, settle, parts-of, wrap-of, whole-of, good-quiet}

@@ -269,7 +269,8 @@ module _ (c : Core) (p : Parts c) (h : WrapOf c) where
       at-number G last 0x4A (good-page c true p h (param q 0) toSpace (λ a z f. f))
       (λ n1. at-number G last 0x4B (good-row c true p h (param q 0) toSpace (λ a z f. f))
       (λ n2. at-number G last 0x68 (good-dec (not (not six)) true q (λ e. folded-keeps WrapOf (decMode true) set-wrap c (paramList q) h))
-      (λ n3. at-number G last 0x6C (good-dec (not (not (six || seven))) false q (λ e. resets-wrap c (paramList q) (or-right six seven (sym (Bool·not-not (six || seven)) ∙ e)) h))
+      (λ n3. at-number G last 0x6C
+      (good-dec (not (not (six || seven))) false q (λ e. resets-wrap c (paramList q) (or-right six seven (sym (Bool·not-not (six || seven)) ∙ e)) h))
       (λ n4. rw (ne-eqb last 0x4A n1, ne-eqb last 0x4B n2, ne-eqb last 0x68 n3, ne-eqb last 0x6C n4) (good-same c _ p h)))))
 
   families : (q : Params) (last : ℕ) (i j s k l : Bool)
@@ -286,5 +287,6 @@ module _ (c : Core) (p : Parts c) (h : WrapOf c) where
       → Good (c .rows) (not (sequenceKeeps q mark first second last)) (sequenced c q mark first second last)
   unfolding sequenced
   good-sequenced q mark first second last n =
-      families q last (isPlain mark first second) (isMarked mark first second) (isSecondary mark first second last) (isProtection mark first second last) (isSoftReset mark first second last) n
+      families q last (isPlain mark first second) (isMarked mark first second)
+      (isSecondary mark first second last) (isProtection mark first second last) (isSoftReset mark first second last) n
       (reset-clears mark first second last)

@@ -5,8 +5,11 @@ use Rattle.csi.proofs.inserting.delete_characters.Statement.{statement}
 use Rattle.csi.proofs.inserting.delete_characters.Tie as tie
 
 returns : tie.Need-returns
-returns c = c .only .ensures ∙ rw (c .before .at-most .ensures, c .before .before .cells-right .ensures, c .before .before .before .n .ensures)
+returns c =
+    let right = c .before .before in
+    c .only .ensures ∙ rw (c .before .at-most .ensures, right .cells-right .ensures, right .before .n .ensures)
 
 pub delete-characters-spec : {M : Type 1} → statement M
 delete-characters-spec =
-    tie.close (tie.spec (λ c. search needs) (λ c. search needs) (λ c κs. search needs) (λ c κs. search needs) (λ c κs. search needs) (λ c κs. search needs) returns)
+    tie.close
+    (tie.spec (λ c. search needs) (λ c. search needs) (λ c κs. search needs) (λ c κs. search needs) (λ c κs. search needs) (λ c κs. search needs) returns)

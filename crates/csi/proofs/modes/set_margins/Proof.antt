@@ -12,7 +12,8 @@ cast-top : tie.Need-cast-top
 cast-top c =
     let bottom = c .before in
     let get = bottom .before in
-    let above : ltb (c .n .result) (bottom .asked-bottom .result) ≡ true = rw (c .n .ensures, bottom .asked-bottom .ensures, get .get .ensures) (get .before .before .pre) in
+    let above : ltb (c .n .result) (bottom .asked-bottom .result) ≡ true =
+    rw (c .n .ensures, bottom .asked-bottom .ensures, get .get .ensures) (get .before .before .pre) in
     let low : c .n .result < bottom .asked-bottom .result = ltb-true _ _ above in
     search needs
 
@@ -25,4 +26,6 @@ returns c =
 
 pub set-margins-spec : {M : Type 1} → statement M
 set-margins-spec =
-    tie.close (tie.spec (λ c κs. search needs) (λ c κs. search needs) (λ c κs. search needs) cast-top (λ c κs. search needs) (λ c κs. search needs) (λ c κs. search needs) returns)
+    tie.close
+    (tie.spec (λ c κs. search needs) (λ c κs. search needs) (λ c κs. search needs) cast-top
+    (λ c κs. search needs) (λ c κs. search needs) (λ c κs. search needs) returns)

@@ -31,11 +31,14 @@ returns-6 : tie.Need-returns-6
 returns-6 c = c .escape .ensures ∙ ap (effect (c .before .before .before .before .args .core)) (sym (c .before .before .action4 .given .1))
 
 returns-7 : tie.Need-returns-7
-returns-7 c = c .sequence .ensures ∙ ap (effect (c .before .before .before .before .before .args .core)) (sym (c .before .before .before .action5 .given .1))
+returns-7 c =
+    let known = c .before .before .before in
+    c .sequence .ensures ∙ ap (effect (known .before .before .args .core)) (sym (known .action5 .given .1))
 
 pub effect-spec : {M : Type 1} → statement M
 effect-spec =
     tie.close
-    (tie.spec (λ c. search needs) (λ c κs. search needs) (λ c. search needs) (λ c κs. search needs) (λ c. search needs) (λ c κs. search needs) (λ c. search needs) (λ c κs. search needs)
+    (tie.spec (λ c. search needs) (λ c κs. search needs) (λ c. search needs) (λ c κs. search needs)
+    (λ c. search needs) (λ c κs. search needs) (λ c. search needs) (λ c κs. search needs)
     (λ c. search needs) (λ c κs. search needs) (λ c. search needs) (λ c κs. search needs) (λ c. search needs) sequence-requires
     returns returns-2 returns-3 returns-4 returns-5 returns-6 returns-7)

@@ -13,7 +13,8 @@ use Rattle.dispatch.proofs.wrap.c1_clears.Tie as tie
 
 returns : tie.Need-returns
 returns c =
-    alike-at (λ (b : ℕ). (eqb b 0x84 || eqb b 0x85) || eqb b 0x8D) (λ (b : ℕ). member b c1Controls && not (member b keepingC1)) 256 refl (c .args .byte) (search needs)
+    alike-at (λ (b : ℕ). (eqb b 0x84 || eqb b 0x85) || eqb b 0x8D) (λ (b : ℕ). member b c1Controls && not (member b keepingC1))
+    256 refl (c .args .byte) (search needs)
 
 pub c1-clears-spec : {M : Type 1} → statement M
 c1-clears-spec = tie.close (tie.spec returns)

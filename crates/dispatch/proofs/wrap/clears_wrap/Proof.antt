@@ -49,5 +49,6 @@ returns-5 c = keeps-wrap (c .before .args .core) (c .before .args .action) (c .m
 pub clears-wrap-spec : {M : Type 1} → statement M
 clears-wrap-spec =
     tie.close
-    (tie.spec (λ c. search needs) (λ c κs. search needs) (λ c. search needs) (λ c κs. search needs) (λ c. search needs) (λ c κs. search needs) (λ c. search needs) (λ c κs. search needs)
+    (tie.spec (λ c. search needs) (λ c κs. search needs) (λ c. search needs) (λ c κs. search needs)
+    (λ c. search needs) (λ c κs. search needs) (λ c. search needs) (λ c κs. search needs)
     returns returns-2 returns-3 returns-4 returns-5)

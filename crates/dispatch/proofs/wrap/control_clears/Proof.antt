@@ -14,7 +14,8 @@ use Rattle.dispatch.proofs.wrap.control_clears.Tie as tie
 returns : tie.Need-returns
 returns c =
     c .between .ensures
-    ∙ alike-at (λ (b : ℕ). between 0x08 b 0x0D) (λ (b : ℕ). member b controls && not (member b keepingControls)) 256 refl (c .before .args .byte) (search needs)
+    ∙ alike-at (λ (b : ℕ). between 0x08 b 0x0D) (λ (b : ℕ). member b controls && not (member b keepingControls))
+    256 refl (c .before .args .byte) (search needs)
 
 pub control-clears-spec : {M : Type 1} → statement M
 control-clears-spec = tie.close (tie.spec (λ c κs. search needs) returns)
