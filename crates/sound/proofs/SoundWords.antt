@@ -37,7 +37,8 @@ use Rattle.vt.specs.Effects.{withShift, withParser}
 use Rattle.vt.specs.Printing.{usedSet, skipped, shownSet, cellWord, glyph, indexEdit, putEdit, lineStart, nextLine, put, printed, substituted}
 use Rattle.vt.specs.Controls.{indexFrom, lineFed, reverseIndexed, controlled, c1Controlled}
 use Rattle.vt.specs.Escapes.{plainEscape, spaceEscape, hashEscape, designate94, designate96, escaped}
-use Rattle.csi.specs.Sequences.{insideMargins, marginsTaken, plainSequence, markedSequence, sequenced}
+use Rattle.csi.specs.Sequences.{plainSequence, markedSequence, sequenced}
+use Rattle.dispatch.specs.Heard.{isHeard, heard}
 use Rattle.dispatch.specs.WrapDue.{clearsWrap, settled}
 use Rattle.dispatch.specs.Decide.{effect, executed, decided}
 
@@ -272,17 +273,17 @@ module _ (c : Core) where
   module _ (q : Params) where
     plain-sequence : (last : ℕ) → Brings (plainSequence c q last)
     plain-sequence last =
-        either Brings (eqb last 0x40) (λ _. either Brings (insideMargins c) (λ _. none) (λ _. none))
+        either Brings (eqb last 0x40) (λ _. none)
         (λ _. either Brings (eqb last 0x41) (λ _. none)
         (λ _. either Brings (eqb last 0x42) (λ _. none)
         (λ _. either Brings (eqb last 0x43) (λ _. none)
         (λ _. either Brings (eqb last 0x44) (λ _. none)
         (λ _. either Brings (eqb last 0x48) (λ _. none)
-        (λ _. either Brings (eqb last 0x4A) (λ _. either Brings (leb (param q 0) 2) (λ _. none) (λ _. none))
-        (λ _. either Brings (eqb last 0x4B) (λ _. either Brings (leb (param q 0) 2) (λ _. none) (λ _. none))
-        (λ _. either Brings (eqb last 0x4C) (λ _. either Brings (insideMargins c) (λ _. none) (λ _. none))
-        (λ _. either Brings (eqb last 0x4D) (λ _. either Brings (insideMargins c) (λ _. none) (λ _. none))
-        (λ _. either Brings (eqb last 0x50) (λ _. either Brings (insideMargins c) (λ _. none) (λ _. none))
+        (λ _. either Brings (eqb last 0x4A) (λ _. none)
+        (λ _. either Brings (eqb last 0x4B) (λ _. none)
+        (λ _. either Brings (eqb last 0x4C) (λ _. none)
+        (λ _. either Brings (eqb last 0x4D) (λ _. none)
+        (λ _. either Brings (eqb last 0x50) (λ _. none)
         (λ _. either Brings (eqb last 0x58) (λ _. none)
         (λ _. either Brings (eqb last 0x66) (λ _. none)
         (λ _. either Brings (eqb last 0x67)
@@ -290,13 +291,13 @@ module _ (c : Core) where
         (λ _. either Brings (eqb last 0x68) (λ _. none)
         (λ _. either Brings (eqb last 0x6C) (λ _. none)
         (λ _. either Brings (eqb last 0x6D) (λ _. none)
-        (λ _. either Brings (eqb last 0x72) (λ _. either Brings (marginsTaken c q) (λ _. none) (λ _. none))
+        (λ _. either Brings (eqb last 0x72) (λ _. none)
         (λ _. none))))))))))))))))))
 
     marked-sequence : (last : ℕ) → Brings (markedSequence c q last)
     marked-sequence last =
-        either Brings (eqb last 0x4A) (λ _. either Brings (leb (param q 0) 2) (λ _. none) (λ _. none))
-        (λ _. either Brings (eqb last 0x4B) (λ _. either Brings (leb (param q 0) 2) (λ _. none) (λ _. none))
+        either Brings (eqb last 0x4A) (λ _. none)
+        (λ _. either Brings (eqb last 0x4B) (λ _. none)
         (λ _. either Brings (eqb last 0x68) (λ _. none)
         (λ _. either Brings (eqb last 0x6C) (λ _. none) (λ _. none))))
 
@@ -322,7 +323,8 @@ effect-brings c (ControlSequence mark first second last) g = sequence-brings c (
 
 pub executed-brings : (c : Core) (a : Action) → Graphic a → Brings (executed c a)
 unfolding executed
-executed-brings c a g = settled-brings (clearsWrap c a) (effect c a) (effect-brings c a g)
+executed-brings c a g =
+    settled-brings (clearsWrap c a) (effect c (heard c a)) (either (λ x. Brings (effect c x)) (isHeard c a) (λ _. effect-brings c a g) (λ _. none))
 
 -- the words that a byte's edits bring in are printable
 pub decided-brings : (c : Core) (b : ℕ) → b < 256 → Brings (decided c b)
