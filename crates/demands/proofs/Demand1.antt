@@ -15,10 +15,11 @@ use Rattle.cells.specs.Sets.{sizeOf, hasBit}
 use Rattle.cells.proofs.BitLaws.{ones-size}
 use Rattle.cells.proofs.EditLaws.{every-edit}
 use Rattle.vt.specs.declared.core.Core.{Core}
-use Rattle.vt.specs.Whole.{sized}
+use Rattle.vt.specs.Whole.{sized, Whole}
 use Rattle.vt.specs.Fresh.{freshCore}
 use Rattle.dispatch.specs.Decide.{decided, sends}
 use Rattle.sound.proofs.Sound.{fresh-whole}
+use Rattle.sound.proofs.Wholeness.{facts}
 use Rattle.sound.proofs.ReplyLength.{sends-short}
 use Rattle.terminal.specs.declared.State.{State}
 use Rattle.terminal.specs.declared.Answer.{Answer}
@@ -76,7 +77,7 @@ ask-returns-whole s h =
 -- ---- S3
 
 pub replies-are-short : RepliesShort
-replies-are-short = sends-short
+replies-are-short c b e = sends-short c (facts c e) b
 
 -- ---- S4: feeding
 
@@ -218,14 +219,14 @@ reply-rest-kept s p i o =
     (λ e h. rw (fed-size s p i o e h) (record { long = refl; within = zero-le; rest = refl }))
     (λ e h. rw (fed-run s p i o e h) (rest-run s p i o (fitting s i o)))
 
-reads-one : (room : ℕ) (c : Core) (bs : List ℕ) → 1 ≤ length bs → 11 ≤ room → 1 ≤ readable room c bs
-reads-one room c [] l h = absurd (omega arith)
-reads-one room c (b ∷ bs) l h =
-    let short = sends-short c b in
+reads-one : (room : ℕ) (c : Core) (bs : List ℕ) → Whole c → 1 ≤ length bs → 11 ≤ room → 1 ≤ readable room c bs
+reads-one room c [] w l h = absurd (omega arith)
+reads-one room c (b ∷ bs) w l h =
+    let short = sends-short c w b in
     rw (readable-fits room c b bs (omega arith)) (suc-le-suc zero-le)
 
 pub progress : Progress
-progress s p i o e h l room = rw (fed-run s p i o e h) (reads-one (length o) (s .core) i l room)
+progress s p i o e h l room = rw (fed-run s p i o e h) (reads-one (length o) (s .core) i (state-facts s e .core) l room)
 
 -- ---- S4: starting, asking, reading
 

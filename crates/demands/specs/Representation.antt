@@ -1,14 +1,20 @@
--- The words of the page stand for what document 01 says: what is proved of our representation, so that the definitions over it say what
--- they seem to. A sentence above each statement; proofs/Representation.antt has a theorem of each type.
+-- What the representation stands for: words, bytes and digits said in the scope's words, so that the definitions over them say what they
+-- seem to. A sentence above each statement; proofs/Representation.antt has a theorem of each type.
 use mathlib.Core.Path.{_≡_}
-use mathlib.Core.Bool.{true, false}
+use mathlib.Core.Bool.{true, false, not, _&&_, _||_}
 use mathlib.Core.List.{[], _∷_}
-use Prim.Native.Nat.{ℕ, _/_, _%_, _^_, _<_}
-use lib.ListN.{getD}
+use Prim.Native.Nat.{ℕ, _/_, _%_, _^_, _<_, _≤_}
+use lib.ListN.{getD, length}
 use Rattle.cells.specs.declared.CharSet.the-variants.{Ascii, SpecialGraphics, Supplemental, Latin1}
 use Rattle.cells.specs.declared.Cell.{Cell}
 use Rattle.cells.specs.Cells.{packed, unpacked, plainCell, blank, selectivelyErased}
 use Rattle.cells.specs.Sets.{hasBit}
+use mathlib.Core.Logic.{_↔_}
+use lib.Dec.{eqb}
+use Rattle.device.specs.declared.tabs.Tabs.{Tabs}
+use Rattle.device.specs.Tabs.{isTab, withTab, withoutTab, noTabs, nextTab, tabsUpTo}
+use Rattle.device.specs.Decimals.{decimal, valueOf}
+use Rattle.terminal.specs.Start.{fresh}
 
 -- ---- cells
 
@@ -51,3 +57,65 @@ pub record Erased (w v : ℕ) : Type 0 where
 
 abbrev pub SelectiveErasure : Type 0
 SelectiveErasure = (w : ℕ) → Erased w (selectivelyErased w)
+
+-- ---- tabs
+
+-- a column of the page
+pub record Column (c : ℕ) : Type 0 where
+  pub low : 1 ≤ c
+  pub high : c ≤ 80
+
+-- The flags are ten bytes, as their type says; what changes them leaves ten.
+abbrev pub Ten : Tabs → Type 0
+Ten t = length (t .flags) ≡ 10
+
+pub record StayTen (r : ℕ) (t : Tabs) (c : ℕ) : Type 0 where
+  pub set : Ten (withTab t c)
+  pub cleared : Ten (withoutTab t c)
+  pub none : Ten noTabs
+  pub begun : Ten (fresh r .core .tabs)
+
+abbrev pub TenBytes : Type 0
+TenBytes = (r : ℕ) (t : Tabs) (c : ℕ) → Ten t → StayTen r t c
+
+-- After HTS at column c the flag of column d is set exactly if d is c or it was set.
+abbrev pub TabSet : Type 0
+TabSet = (t : Tabs) (c d : ℕ) → Ten t → Column c → Column d → isTab (withTab t c) d ≡ (eqb d c || isTab t d)
+
+-- After TBC 0 at column c it is set exactly if d is not c and it was set.
+abbrev pub TabCleared : Type 0
+TabCleared = (t : Tabs) (c d : ℕ) → Ten t → Column c → Column d → isTab (withoutTab t c) d ≡ (not (eqb d c) && isTab t d)
+
+-- After TBC 3 no column's is set.
+abbrev pub TabsNone : Type 0
+TabsNone = (d : ℕ) → Column d → isTab noTabs d ≡ false
+
+-- Fresh tabs are at 9, 17 and so on to 73, and at no other of the 80 columns.
+abbrev pub TabsFresh : Type 0
+TabsFresh = (r : ℕ) → tabsUpTo 80 (fresh r .core .tabs) ≡ 9 ∷ 17 ∷ 25 ∷ 33 ∷ 41 ∷ 49 ∷ 57 ∷ 65 ∷ 73 ∷ []
+
+-- HT goes right, to the last column at most, where it stays; no flag is set on the way, and where it stops one is set, or it is the last column.
+pub record FirstRight (t : Tabs) (c last r : ℕ) : Type 0 where
+  pub right : c < last → c < r
+  pub stays : c ≤ r
+  pub within : r ≤ last
+  pub between : (d : ℕ) → c < d → d < r → isTab t d ≡ false
+  pub stops : isTab t r ≡ false → r ≡ last
+
+abbrev pub TabNext : Type 0
+TabNext = (t : Tabs) (c last : ℕ) → c ≤ last → FirstRight t c last (nextTab t c last)
+
+-- ---- decimals
+
+-- The decimal of a number: its digits give the number again, each is 30 to 39, the first is no 30 but for 0 itself, there is one at least, and
+-- there are at most k exactly if the number is below 10 ^ k.
+pub record Written (n : ℕ) : Type 0 where
+  pub value : valueOf (decimal n) ≡ n
+  pub low : (k : ℕ) → k < length (decimal n) → 0x30 ≤ getD (decimal n) k 0
+  pub high : (k : ℕ) → k < length (decimal n) → getD (decimal n) k 0 ≤ 0x39
+  pub first : 1 ≤ n → 0x31 ≤ getD (decimal n) 0 0
+  pub some : 1 ≤ length (decimal n)
+  pub long : (k : ℕ) → 1 ≤ k → (length (decimal n) ≤ k) ↔ (n < 10 ^ k)
+
+abbrev pub Decimals : Type 0
+Decimals = (n : ℕ) → Written n

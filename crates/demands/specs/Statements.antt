@@ -11,8 +11,7 @@ use Rattle.cells.specs.Cells.{blank}
 use Rattle.cells.specs.Sets.{sizeOf, hasBit, changed}
 use Rattle.cells.specs.Edits.{applied, target, Within}
 use Rattle.vt.specs.declared.core.Core.{Core}
-use Rattle.vt.specs.Whole.{sized}
-use Rattle.device.specs.ReplyBytes.{longestReply}
+use Rattle.vt.specs.Whole.{sized, wholeCore}
 use Rattle.dispatch.specs.Decide.{sends}
 use Rattle.terminal.specs.declared.State.{State}
 use Rattle.terminal.specs.declared.Asked.{Asked}
@@ -63,10 +62,10 @@ FeedWhole = (s : State) (p i o : List ℕ) → refusal (fed s p i o .result .ans
 abbrev pub AskWhole : Type 0
 AskWhole = (s : State) → refusal (asked s .result .answer) ≡ false → wholeState (asked s .result .state) ≡ true
 
--- ==== S3. No byte sends more than the longest reply, 11 bytes.
+-- ==== S3. Where the core is whole, no byte sends more than 11 bytes.
 
 abbrev pub RepliesShort : Type 0
-RepliesShort = (c : Core) (b : ℕ) → length (sends c b) ≤ longestReply
+RepliesShort = (c : Core) (b : ℕ) → wholeCore c ≡ true → length (sends c b) ≤ 11
 
 -- ==== S4, demand 1. Any bytes are taken without harm.
 
@@ -119,9 +118,9 @@ pub record RestKept (o : List ℕ) (f : Feed) : Type 0 where
 abbrev pub ReplyKept : Type 0
 ReplyKept = (s : State) (p i o : List ℕ) → RestKept o (fed s p i o)
 
--- With room for the longest reply, given input, a whole state and a page of the right length, at least one byte is read.
+-- With room for 11 bytes, given input, a whole state and a page of the right length, at least one byte is read.
 abbrev pub Progress : Type 0
-Progress = (s : State) (p i o : List ℕ) → wholeState s ≡ true → Sized s p → 1 ≤ length i → longestReply ≤ length o → 1 ≤ fed s p i o .result .read
+Progress = (s : State) (p i o : List ℕ) → wholeState s ≡ true → Sized s p → 1 ≤ length i → 11 ≤ length o → 1 ≤ fed s p i o .result .read
 
 -- Starting answers 1 exactly for another R than 24, 36 and 48, then 2 exactly for another length; refused, it returns the fresh 24-row state
 -- and leaves the page; done, the state is fresh and every cell blank.

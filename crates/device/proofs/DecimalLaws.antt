@@ -1,6 +1,6 @@
 -- Decimals: the digits of n are those of n / 10, then the last, so what holds below 10 and goes from n / 10 to n holds of every number.
 use mathlib.Core.Path.{_≡_, refl, sym, ap, _∙_}
-use mathlib.Core.Bool.{Bool, true, false, cond}
+use mathlib.Core.Bool.{Bool, true, false}
 use mathlib.Core.List.{List, [], _∷_, _++_}
 use mathlib.Core.Logic.{_↔_}
 use Prim.Native.Nat.{ℕ, zero, suc, _+_, _-_, _*_, _/_, _%_, _^_, _≤_, _<_}
@@ -100,7 +100,8 @@ small-length n h = rw (decimal-small n h)
 pub more-length : (n : ℕ) → 10 ≤ n → length (decimal n) ≡ length (decimal (n / 10)) + 1
 more-length n h = rw (decimal-more n h) (length-append (decimal (n / 10)) ((0x30 + n % 10) ∷ []))
 
-some-digit : (n : ℕ) → 1 ≤ length (decimal n)
+-- there is one
+pub some-digit : (n : ℕ) → 1 ≤ length (decimal n)
 some-digit = by-tenths (λ n. 1 ≤ length (decimal n)) (λ n h. rw (decimal-small n h) (omega arith)) (λ n h l. omega (arith, more-length n h))
 
 pub decimal-length : (n k : ℕ) → 1 ≤ k → (length (decimal n) ≤ k) ↔ (n < 10 ^ k)

@@ -11,7 +11,7 @@ digitsIn (suc k) n =
     let front = digitsIn k (n / 10) in
     cond (ltb n 10) ((0x30 + n) ∷ []) (front ++ ((0x30 + n % 10) ∷ []))
 
--- n has at most n digits, or is 0
+-- suc n places are enough for n
 unfoldable pub decimal : ℕ → List ℕ
 decimal n = digitsIn n n
 

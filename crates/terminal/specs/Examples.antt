@@ -23,6 +23,7 @@ use Rattle.vt.specs.Escapes.{escaped}
 use Rattle.csi.specs.Sequences.{rendered, softReset, sequenced}
 use Rattle.dispatch.specs.WrapDue.{clearsWrap}
 use Rattle.dispatch.specs.Replies.{replyTo}
+use Rattle.device.specs.Decimals.{digitsIn, decimal}
 use Rattle.device.specs.ReplyBytes.{replyBytes}
 use Rattle.dispatch.specs.Decide.{executed, decided, sends}
 use Rattle.terminal.specs.Steps.{stepped, ran, sent, readable}
@@ -130,7 +131,7 @@ begun = record { state = fresh 24; page = blankPage 24 }
 
 -- an example holds
 unfoldable pub holds : List Line → Bool
-unfolding packed unpacked spaced selectivelyErased joined bitsOf added sizeOf applied withDigit withSeparator transition decode withTab withoutTab nextAmong freshCore wholeCore put printed substituted controlled c1Controlled escaped rendered softReset sequenced clearsWrap replyTo replyBytes executed decided sends stepped ran sent readable wholeState fed asked
+unfolding packed unpacked spaced selectivelyErased joined bitsOf added sizeOf applied withDigit withSeparator transition decode withTab withoutTab nextAmong freshCore wholeCore put printed substituted controlled c1Controlled escaped rendered softReset sequenced clearsWrap replyTo digitsIn decimal replyBytes executed decided sends stepped ran sent readable wholeState fed asked
 holds ls = goes begun ls
 
 -- ---- document 01's examples: fresh, R = 24

@@ -1,6 +1,5 @@
 -- Each arm is the length of the definition's clause for that reply.
 use mathlib.Core.Path.{sym}
-use native.Mathlib.Omega.{arith}
 use borrow.Author.Needs.{needs}
 use Rattle.device.proofs.SendLaws.{position-length, extended-length}
 use Rattle.device.proofs.sending.body_len.Statement.{statement}
