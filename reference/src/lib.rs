@@ -15,10 +15,13 @@
 //! * `text`: the page as text.
 //! * `grammar`: seeded hostile byte streams for comparing.
 //! * `script`: scripts of calls, and carrying them out.
+//! * `words`: commands and what they wrote, in words.
+//! * `examples`: examples as text, as scripts.
 //! * `plan`: the scripts that are compared.
 
 pub mod calls;
 pub mod cell;
+pub mod examples;
 pub mod functions;
 pub mod grammar;
 pub mod page;
@@ -28,8 +31,9 @@ pub mod reply;
 pub mod script;
 pub mod state;
 pub mod text;
+pub mod words;
 
 pub use calls::{ask, feed, read_cell, start};
-pub use parser::Parser;
+pub use parser::{Given, Parser};
 pub use state::{is_whole, Cursor, Saved, Sets, Slot, State};
 pub use text::text;

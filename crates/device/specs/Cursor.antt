@@ -47,6 +47,7 @@ advance u last autowrap =
 abbrev pub restore : Cursor → ℕ → ℕ → Bool → Cursor
 restore u top bottom autowrap = record { row = max top (min bottom (u .row)); column = u .column; wrap = u .wrap && autowrap }
 
+-- where it is, no wrap due
 abbrev pub noWrap : Cursor → Cursor
 noWrap u = place (u .row) (u .column)
 

@@ -58,7 +58,7 @@ fn record_left(terminal: Terminal, answer: Answer, state: State) -> Terminal
 pub fn start(terminal: Terminal, rows: usize, page: &mut [u16]) -> Left
     ensures { λ r. ⌜ leaving.StartLeaves terminal (started rows (now (page .entry))) (r .answer) (r .terminal) (now (page .exit)) ⌝ }
 {
-    let done = calls::start(rows, page);
+    let done = calls::start(rows as usize, page);
     let answer = done.answer;
     Left {
         answer: number(answer),

@@ -2,9 +2,9 @@
 use vt::core::Core;
 
 pub mod calls;
-pub mod line;
-pub mod run;
-pub mod whole;
+mod line;
+mod run;
+mod whole;
 
 // The changed rows are bits of one number, row 1 the lowest.
 pub struct State {

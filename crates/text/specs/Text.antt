@@ -23,19 +23,19 @@ lineDrawing =
     ∷ 0x23BA ∷ 0x23BB ∷ 0x2500 ∷ 0x23BC ∷ 0x23BD ∷ 0x251C ∷ 0x2524 ∷ 0x2534
     ∷ 0x252C ∷ 0x2502 ∷ 0x2264 ∷ 0x2265 ∷ 0x03C0 ∷ 0x2260 ∷ 0x00A3 ∷ 0x00B7 ∷ []
 
--- "?": Supplemental, and the control codes of ASCII and Special Graphics, which no printing puts into a cell
+-- "?": Supplemental, and the control codes of ASCII and Special Graphics, which no byte puts into a cell
 abbrev pub unshown : ℕ
 unshown = 0x3F
 
--- a code of ASCII, or one of Special Graphics below 5F, is itself
-abbrev pub itself : ℕ → ℕ
-itself x = cond (ltb x 0x20 || eqb x 0x7F) unshown x
+-- a code of ASCII, or one of Special Graphics below 5F: itself, or "?" for a control code
+abbrev pub shownCode : ℕ → ℕ
+shownCode x = cond (ltb x 0x20 || eqb x 0x7F) unshown x
 
 abbrev pub graphicSign : ℕ → ℕ
-graphicSign x = cond (ltb x 0x5F || eqb x 0x7F) (itself x) (getD lineDrawing (x - 0x5F) 0)
+graphicSign x = cond (ltb x 0x5F || eqb x 0x7F) (shownCode x) (getD lineDrawing (x - 0x5F) 0)
 
 abbrev pub signIn : CharSet → ℕ → ℕ
-signIn Ascii x = itself x
+signIn Ascii x = shownCode x
 signIn SpecialGraphics x = graphicSign x
 signIn Supplemental x = unshown
 signIn Latin1 x = 0x80 + x
@@ -92,8 +92,14 @@ pageText p = textOf (length p / 80) p
 
 -- ---- writing it into a buffer
 
--- the result, and what is left in the buffer
+-- document 01's numbers
+abbrev pub writtenNumber : Written → ℕ
+writtenNumber (Whole n) = 0
+writtenNumber NoRoom = 3
+
+-- the answer's number, the result, and what is left in the buffer
 pub record Write : Type 0 where
+  pub number : ℕ
   pub result : Written
   pub buffer : List ℕ
 
@@ -101,10 +107,13 @@ pub record Write : Type 0 where
 abbrev pub writeAnswer : List ℕ → List ℕ → Written
 writeAnswer t o = cond (leb (length t) (length o)) (Whole (length t)) NoRoom
 
+abbrev pub writeAs : Written → List ℕ → Write
+writeAs w o = record { number = writtenNumber w; result = w; buffer = o }
+
 -- returned and left
 abbrev pub writeGives : Written → List ℕ → List ℕ → Write
-writeGives (Whole n) t o = record { result = Whole n; buffer = sets o 0 t }
-writeGives NoRoom t o = record { result = NoRoom; buffer = o }
+writeGives (Whole n) t o = writeAs (Whole n) (sets o 0 t)
+writeGives NoRoom t o = writeAs NoRoom o
 
 -- a page and a buffer
 unfoldable pub written : List ℕ → List ℕ → Write

@@ -59,7 +59,7 @@ select-graphic-rendition-requires : tie.Need-select-graphic-rendition-requires
 select-graphic-rendition-requires c κs = search needs
 
 set-margins-requires : tie.Need-set-margins-requires
-set-margins-requires c κs = search needs
+set-margins-requires c κs = c .before .pre .1 (c .match .keys18)
 
 quiet-requires : tie.Need-quiet-requires
 quiet-requires c κs = search needs

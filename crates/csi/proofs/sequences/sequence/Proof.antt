@@ -10,7 +10,7 @@ is-plain-requires : tie.Need-is-plain-requires
 is-plain-requires c κs = search needs
 
 plain-sequence-requires : tie.Need-plain-sequence-requires
-plain-sequence-requires c κs = search needs
+plain-sequence-requires c κs = (c .before .before .pre .0, c .before .before .pre .1 (sym (c .before .is-plain .ensures) ∙ c .if1 .taken))
 
 returns : tie.Need-returns
 unfolding sequenced

@@ -1,5 +1,5 @@
 -- Refused for a state that is not whole; else the count of ones is the set's size.
-use mathlib.Core.Path.{_≡_, sym, _∙_}
+use mathlib.Core.Path.{sym, _∙_}
 use borrow.Author.Tests.{not-true, not-false}
 use Rattle.terminal.specs.Ask.{asked}
 use Rattle.terminal.proofs.CallLaws.{state-facts}

@@ -1,5 +1,5 @@
 -- Each return is the definition's case, by the tests that led there; on the page, the cell's place is inside the slice.
-use mathlib.Core.Path.{_≡_, sym, _∙_}
+use mathlib.Core.Path.{sym, _∙_}
 use native.Mathlib.Omega.{arith}
 use borrow.Author.Tests.{eq-eqb, ne-eqb, not-true, not-false}
 use Rattle.terminal.specs.Read.{cellRead}

@@ -10,8 +10,8 @@ returns : tie.Need-returns
 unfolding unpacked sign
 returns c = rw (eq-eqb _ _ (c .if1 .taken))
 
-plain-sign-requires : tie.Need-plain-sign-requires
-plain-sign-requires c κs = search needs
+shown-code-requires : tie.Need-shown-code-requires
+shown-code-requires c κs = search needs
 
 graphic-sign-requires : tie.Need-graphic-sign-requires
 graphic-sign-requires c κs = search needs
@@ -21,7 +21,7 @@ add-result c = search needs
 
 returns-2 : tie.Need-returns-2
 unfolding unpacked sign
-returns-2 c = rw (ne-eqb _ _ (c .before .before .if1 .left), eq-eqb _ _ (c .before .match .keys1)) (c .plain-sign .ensures)
+returns-2 c = rw (ne-eqb _ _ (c .before .before .if1 .left), eq-eqb _ _ (c .before .match .keys1)) (c .shown-code .ensures)
 
 returns-3 : tie.Need-returns-3
 unfolding unpacked sign
@@ -41,7 +41,7 @@ sign-spec =
     tie.close
     (tie.spec
     returns
-    plain-sign-requires
+    shown-code-requires
     graphic-sign-requires
     add-result
     returns-2

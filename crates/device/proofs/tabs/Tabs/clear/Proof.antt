@@ -1,6 +1,5 @@
 -- Each arm is the definition's, by the flag, whose weight is there where it is set.
 use mathlib.Core.Path.{sym, _∙_}
-use native.Mathlib.Omega.{arith}
 use borrow.Author.Needs.{needs}
 use Rattle.device.specs.Tabs.{withoutTab}
 use Rattle.device.proofs.TabLaws.{weight-there}
@@ -25,7 +24,7 @@ weight-requires c κs = search needs
 sub-self : tie.Need-sub-self
 sub-self c =
     let g = c .before .before .before in
-    rw (c .weight .ensures) (weight-there _ _ (omega arith) (sym (g .get .ensures) ∙ c .before .before .if1 .taken))
+    rw (c .weight .ensures) (weight-there _ _ (sym (g .get .ensures) ∙ c .before .before .if1 .taken))
 
 element-write-self : tie.Need-element-write-self
 element-write-self c = search needs

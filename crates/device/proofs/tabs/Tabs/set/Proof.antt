@@ -33,7 +33,7 @@ add-self c =
     let g = c .before .before .before in
     let h : Fits w8 (tabByte (g .before .args .t1) (g .before .args .column)) = search needs in
     rw (c .weight .ensures)
-    (record { fits = weight-fits _ _ (h .fits) (omega arith) (sym (g .get .ensures) ∙ c .before .before .if1 .left) })
+    (record { fits = weight-fits _ 8 _ (h .fits) (omega arith) (sym (g .get .ensures) ∙ c .before .before .if1 .left) })
 
 element-write-self : tie.Need-element-write-self
 element-write-self c = search needs
