@@ -17,7 +17,7 @@ use terminal::calls::start;
 use text::Written;
 
 fn do_start(rows: u16, page: &mut [u16], out: &mut [u8]) -> State {
-    let begun = start((rows % 256) as u8, page);
+    let begun = start(rows as usize, page);
     let answer = begun.answer;
     let name = put(out, 0, b'S');
     let end = put(out, name, number(answer));

@@ -26,10 +26,8 @@ use Rattle.terminal.specs.Steps.{Screen, stepped, ran, ranCore, sent, readable}
 use Rattle.terminal.specs.Whole.{wholeState, WholeState}
 use Rattle.terminal.specs.Start.{Start, fresh, blankPage, started}
 use Rattle.terminal.specs.Feed.{Feed, readCount, fitting, screen, feedFirst, feedRefused, fed}
-use Rattle.terminal.specs.Ask.{asked, askDone, askRefused}
-use Rattle.terminal.specs.declared.Asked.{Asked}
-use Rattle.terminal.specs.declared.CellRead.{CellRead}
-use Rattle.terminal.specs.Read.{onPage, cellRead}
+use Rattle.terminal.specs.Ask.{Ask, asked}
+use Rattle.terminal.specs.Read.{Read, onPage, cellRead}
 use Rattle.terminal.proofs.StepLaws.{Sane, sane-step, sane-ran, ran-core, sent-fits, readable-most, readable-fits}
 use Rattle.terminal.proofs.CallLaws.{state-facts, state-tested, sane-screen, fed-broken, fed-size, fed-run, fed-cases, Taken, fed-taken, fed-left, asked-done, asked-broken, asked-whole, started-as, read-as}
 use Rattle.demands.specs.Statements.{Sized, stateOf, FreshWhole, KeptWhole, StepWhole, StartWhole, FeedWhole, AskWhole, RepliesShort, NextTooLong, FeedAnswers, FeedExact, Untouched, FeedRefused, DoneUpTo, FeedDoes, RestKept, ReplyKept, Progress, StartAnswers, StartExact, AskAnswers, AskExact, ReadAnswers, ReadExact, EveryEdit}
@@ -253,19 +251,19 @@ ask-is-exact s = go (wholeState s) refl
     go : (t : Bool) → wholeState s ≡ t → AskAnswers s
     go true e =
         let q = asked-done s e in
-        let n : number (asked s .answer) ≡ 0 = ap (λ (x : Asked). number (x .answer)) q in
+        let n : number (asked s .result .answer) ≡ 0 = ap (λ (x : Ask). number (x .result .answer)) q in
         record {
           broken = neither (λ z. omega arith) (λ x. false≢true (sym x ∙ e));
           done = both n e;
-          refused = λ x. absurd (false≢true (ap (λ (y : Asked). refusal (y .answer)) (sym q) ∙ x));
+          refused = λ x. absurd (false≢true (ap (λ (y : Ask). refusal (y .result .answer)) (sym q) ∙ x));
         }
     go false e =
         let q = asked-broken s e in
-        let n : number (asked s .answer) ≡ 1 = ap (λ (x : Asked). number (x .answer)) q in
+        let n : number (asked s .result .answer) ≡ 1 = ap (λ (x : Ask). number (x .result .answer)) q in
         record {
           broken = both n e;
           done = neither (λ z. omega arith) (λ x. false≢true (sym e ∙ x));
-          refused = λ x. (ap (λ (y : Asked). y .rows) q, ap (λ (y : Asked). y .count) q, ap (λ (y : Asked). y .state) q);
+          refused = λ x. (ap (λ (y : Ask). y .result .rows) q, ap (λ (y : Ask). y .result .count) q, ap (λ (y : Ask). y .result .state) q);
         }
 
 pub read-is-exact : ReadExact
@@ -275,49 +273,49 @@ read-is-exact s p r c = go (wholeState s) refl (eqb (length p) (80 * s .core .ro
     go true e true g true k =
         let l = eqb-true (length p) (80 * s .core .rows) g in
         let q = read-as s p r c Done (rw (e, g, k)) in
-        let n : number (cellRead s p r c .answer) ≡ 0 = ap (λ (x : CellRead). number (x .answer)) q in
+        let n : number (cellRead s p r c .result .answer) ≡ 0 = ap (λ (x : Read). number (x .result .answer)) q in
         record {
           broken = neither (λ z. omega arith) (λ x. false≢true (sym x ∙ e));
           wrong-size = neither (λ z. omega arith) (λ x. x .1 l);
           off-page = neither (λ z. omega arith) (λ x. false≢true (sym (x .2) ∙ k));
           done = both n (e, l, k);
-          refused = λ x. absurd (false≢true (ap (λ (y : CellRead). refusal (y .answer)) (sym q) ∙ x));
-          word = λ x. ap (λ (y : CellRead). y .word) q;
+          refused = λ x. absurd (false≢true (ap (λ (y : Read). refusal (y .result .answer)) (sym q) ∙ x));
+          word = λ x. ap (λ (y : Read). y .result .word) q;
         }
     go true e true g false k =
         let l = eqb-true (length p) (80 * s .core .rows) g in
         let q = read-as s p r c OffPage (rw (e, g, k)) in
-        let n : number (cellRead s p r c .answer) ≡ 4 = ap (λ (x : CellRead). number (x .answer)) q in
+        let n : number (cellRead s p r c .result .answer) ≡ 4 = ap (λ (x : Read). number (x .result .answer)) q in
         record {
           broken = neither (λ z. omega arith) (λ x. false≢true (sym x ∙ e));
           wrong-size = neither (λ z. omega arith) (λ x. x .1 l);
           off-page = both n (e, l, k);
           done = neither (λ z. omega arith) (λ x. false≢true (sym k ∙ x .2));
-          refused = λ x. ap (λ (y : CellRead). y .word) q;
-          word = λ x. absurd (false≢true (sym x ∙ ap (λ (y : CellRead). refusal (y .answer)) q));
+          refused = λ x. ap (λ (y : Read). y .result .word) q;
+          word = λ x. absurd (false≢true (sym x ∙ ap (λ (y : Read). refusal (y .result .answer)) q));
         }
     go true e false g v k =
         let l = eqb-false (length p) (80 * s .core .rows) g in
         let q = read-as s p r c WrongSize (rw (e, g)) in
-        let n : number (cellRead s p r c .answer) ≡ 2 = ap (λ (x : CellRead). number (x .answer)) q in
+        let n : number (cellRead s p r c .result .answer) ≡ 2 = ap (λ (x : Read). number (x .result .answer)) q in
         record {
           broken = neither (λ z. omega arith) (λ x. false≢true (sym x ∙ e));
           wrong-size = both n (e, l);
           off-page = neither (λ z. omega arith) (λ x. l (x .1));
           done = neither (λ z. omega arith) (λ x. l (x .1));
-          refused = λ x. ap (λ (y : CellRead). y .word) q;
-          word = λ x. absurd (false≢true (sym x ∙ ap (λ (y : CellRead). refusal (y .answer)) q));
+          refused = λ x. ap (λ (y : Read). y .result .word) q;
+          word = λ x. absurd (false≢true (sym x ∙ ap (λ (y : Read). refusal (y .result .answer)) q));
         }
     go false e u g v k =
         let q = read-as s p r c Broken (rw e) in
-        let n : number (cellRead s p r c .answer) ≡ 1 = ap (λ (x : CellRead). number (x .answer)) q in
+        let n : number (cellRead s p r c .result .answer) ≡ 1 = ap (λ (x : Read). number (x .result .answer)) q in
         record {
           broken = both n e;
           wrong-size = neither (λ z. omega arith) (λ x. false≢true (sym e ∙ x .0));
           off-page = neither (λ z. omega arith) (λ x. false≢true (sym e ∙ x .0));
           done = neither (λ z. omega arith) (λ x. false≢true (sym e ∙ x .0));
-          refused = λ x. ap (λ (y : CellRead). y .word) q;
-          word = λ x. absurd (false≢true (sym x ∙ ap (λ (y : CellRead). refusal (y .answer)) q));
+          refused = λ x. ap (λ (y : Read). y .result .word) q;
+          word = λ x. absurd (false≢true (sym x ∙ ap (λ (y : Read). refusal (y .result .answer)) q));
         }
 
 -- ---- S8

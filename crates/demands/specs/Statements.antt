@@ -62,7 +62,7 @@ abbrev pub FeedWhole : Type 0
 FeedWhole = (s : State) (p i o : List ℕ) → refusal (fed s p i o .result .answer) ≡ false → wholeState (fed s p i o .result .state) ≡ true
 
 abbrev pub AskWhole : Type 0
-AskWhole = (s : State) → refusal (asked s .answer) ≡ false → wholeState (asked s .state) ≡ true
+AskWhole = (s : State) → refusal (asked s .result .answer) ≡ false → wholeState (asked s .result .state) ≡ true
 
 -- ==== S3. No byte sends more than the longest reply, 11 bytes.
 
@@ -135,21 +135,21 @@ StartExact = (r : ℕ) (p : List ℕ) → StartAnswers r p
 
 -- Asking answers 1 exactly for a state that is not whole, and then returns the empty set, 0, and the state as it came.
 pub record AskAnswers (s : State) : Type 0 where
-  pub broken : number (asked s .answer) ≡ 1 ↔ (wholeState s ≡ false)
-  pub done : number (asked s .answer) ≡ 0 ↔ (wholeState s ≡ true)
-  pub refused : refusal (asked s .answer) ≡ true → (asked s .rows ≡ 0) × (asked s .count ≡ 0) × (asked s .state ≡ s)
+  pub broken : number (asked s .result .answer) ≡ 1 ↔ (wholeState s ≡ false)
+  pub done : number (asked s .result .answer) ≡ 0 ↔ (wholeState s ≡ true)
+  pub refused : refusal (asked s .result .answer) ≡ true → (asked s .result .rows ≡ 0) × (asked s .result .count ≡ 0) × (asked s .result .state ≡ s)
 
 abbrev pub AskExact : Type 0
 AskExact = (s : State) → AskAnswers s
 
 -- Reading a cell answers 1 before 2 before 4, each exactly when document 01 says; refused, it returns a blank cell.
 pub record ReadAnswers (s : State) (p : List ℕ) (r c : ℕ) : Type 0 where
-  pub broken : number (cellRead s p r c .answer) ≡ 1 ↔ (wholeState s ≡ false)
-  pub wrong-size : number (cellRead s p r c .answer) ≡ 2 ↔ ((wholeState s ≡ true) × (Sized s p → ⊥))
-  pub off-page : number (cellRead s p r c .answer) ≡ 4 ↔ ((wholeState s ≡ true) × Sized s p × (onPage (s .core .rows) r c ≡ false))
-  pub done : number (cellRead s p r c .answer) ≡ 0 ↔ ((wholeState s ≡ true) × Sized s p × (onPage (s .core .rows) r c ≡ true))
-  pub refused : refusal (cellRead s p r c .answer) ≡ true → cellRead s p r c .word ≡ blank
-  pub word : refusal (cellRead s p r c .answer) ≡ false → cellRead s p r c .word ≡ cellAt p r c
+  pub broken : number (cellRead s p r c .result .answer) ≡ 1 ↔ (wholeState s ≡ false)
+  pub wrong-size : number (cellRead s p r c .result .answer) ≡ 2 ↔ ((wholeState s ≡ true) × (Sized s p → ⊥))
+  pub off-page : number (cellRead s p r c .result .answer) ≡ 4 ↔ ((wholeState s ≡ true) × Sized s p × (onPage (s .core .rows) r c ≡ false))
+  pub done : number (cellRead s p r c .result .answer) ≡ 0 ↔ ((wholeState s ≡ true) × Sized s p × (onPage (s .core .rows) r c ≡ true))
+  pub refused : refusal (cellRead s p r c .result .answer) ≡ true → cellRead s p r c .result .word ≡ blank
+  pub word : refusal (cellRead s p r c .result .answer) ≡ false → cellRead s p r c .result .word ≡ cellAt p r c
 
 abbrev pub ReadExact : Type 0
 ReadExact = (s : State) (p : List ℕ) (r c : ℕ) → ReadAnswers s p r c

@@ -55,8 +55,8 @@ patched n bits copy page = joined n (λ k. cond (hasBit bits k) (row page k) (ro
 
 abbrev pub answerTo : World → State → Lent → Call → Answer
 answerTo w s l (feeding i o) = fed s (wordsOf w l) i o .result .answer
-answerTo w s l asking = asked s .answer
-answerTo w s l (reading r c) = cellRead s (wordsOf w l) r c .answer
+answerTo w s l asking = asked s .result .answer
+answerTo w s l (reading r c) = cellRead s (wordsOf w l) r c .result .answer
 
 -- the newest state becomes the returned one if the call was a feeding or an asking and was not refused
 abbrev pub worldAfter : World → State → Lent → Call → World
@@ -64,7 +64,7 @@ worldAfter w s l (feeding i o) =
     let f = fed s (wordsOf w l) i o in
     record { page = pageAfter w l (f .page); state = cond (refusal (f .result .answer)) (w .state) (f .result .state); copy = w .copy }
 worldAfter w s l asking =
-    let a = asked s in
+    let a = asked s .result in
     record {
       page = w .page;
       state = cond (refusal (a .answer)) (w .state) (a .state);
@@ -78,9 +78,9 @@ seenOf w s l (feeding i o) =
     let f = fed s (wordsOf w l) i o in
     sawFed (number (f .result .answer)) (f .result .read) (take (f .result .replied) (f .reply))
 seenOf w s l asking =
-    let a = asked s in
+    let a = asked s .result in
     sawRows (rowList (s .core .rows) (hasBit (a .rows))) (a .count) (patched (s .core .rows) (a .rows) (w .copy) (w .page))
-seenOf w s l (reading r c) = sawCell (cellRead s (wordsOf w l) r c .word)
+seenOf w s l (reading r c) = sawCell (cellRead s (wordsOf w l) r c .result .word)
 
 -- ---- an item
 

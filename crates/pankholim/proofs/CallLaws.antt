@@ -11,11 +11,10 @@ use Rattle.terminal.specs.declared.Fed.{Fed}
 use Rattle.terminal.specs.declared.Asked.{Asked}
 use Rattle.terminal.specs.declared.CellRead.{CellRead}
 use Rattle.terminal.specs.Answers.{number, refusal}
-use Rattle.terminal.specs.Start.{started}
-use Rattle.terminal.specs.Feed.{Feed, fed, feedGives, feedAnswer}
-use Rattle.terminal.specs.Ask.{asked, askGives, askAnswer}
-use Rattle.terminal.specs.Read.{cellRead}
-use Rattle.terminal.specs.Ready.{StartedAs, FedAs}
+use Rattle.terminal.specs.Start.{Start, startAs, started}
+use Rattle.terminal.specs.Feed.{Feed, feedAs, fed, feedGives, feedAnswer}
+use Rattle.terminal.specs.Ask.{Ask, asked, askGives, askAnswer}
+use Rattle.terminal.specs.Read.{Read, cellRead}
 use Rattle.pankholim.specs.declared.record.Terminal.{Terminal}
 use Rattle.pankholim.specs.Record.{stateOf, recordOf}
 use Rattle.pankholim.specs.Leaves.{left, StartLeaves, FeedLeaves, AskLeaves, ReadLeaves}
@@ -23,14 +22,14 @@ use Rattle.pankholim.proofs.RecordLaws.{state-back, state-left}
 
 -- ---- a refused call returns the state as it came
 
-asked-kept : (a : Answer) (s : State) → refusal (askGives a s .answer) ≡ true → askGives a s .state ≡ s
+asked-kept : (a : Answer) (s : State) → refusal (askGives a s .result .answer) ≡ true → askGives a s .result .state ≡ s
 asked-kept Done s h = absurd (false≢true h)
 asked-kept Broken s h = refl
 asked-kept WrongSize s h = refl
 asked-kept NoRoom s h = refl
 asked-kept OffPage s h = refl
 
-ask-kept : (s : State) → refusal (asked s .answer) ≡ true → asked s .state ≡ s
+ask-kept : (s : State) → refusal (asked s .result .answer) ≡ true → asked s .result .state ≡ s
 unfolding asked
 ask-kept s h = asked-kept (askAnswer s) s h
 
@@ -48,54 +47,54 @@ feed-kept s p i o h = fed-kept (feedAnswer s p i o) s p i o h
 -- ---- the calls
 
 pub start-leaves : (n : ℕ) (p : List ℕ) (d : Started) (page : List ℕ) (r : ℕ) (u : Terminal)
-    → StartedAs (started n p) d page → r ≡ number (d .answer) → u ≡ recordOf (d .state)
+    → startAs (d .answer) (d .state) page ≡ started n p → r ≡ number (d .answer) → u ≡ recordOf (d .state)
     → StartLeaves (started n p) r u page
 start-leaves n p d page r u done er eu =
-    let e : u ≡ recordOf (started n p .result .state) = eu ∙ ap (λ (x : Started). recordOf (x .state)) (done .result) in
+    let e : u ≡ recordOf (started n p .result .state) = eu ∙ ap (λ (x : Start). recordOf (x .result .state)) done in
     record {
-      answer-is = er ∙ ap (λ (x : Started). number (x .answer)) (done .result);
+      answer-is = er ∙ ap (λ (x : Start). number (x .result .answer)) done;
       state-is = ap stateOf e ∙ state-back (started n p .result .state);
       terminal-is = e;
-      page-is = done .page-is;
+      page-is = ap (λ (x : Start). x .page) done;
     }
 
 pub ask-leaves : (t : Terminal) (s : State) (d : Asked) (r : ℕ) (u : Terminal)
-    → s ≡ stateOf t → d ≡ asked s → r ≡ number (d .answer) → u ≡ left t (d .answer) (d .state)
+    → s ≡ stateOf t → record { number = number (d .answer); result = d } ≡ asked s → r ≡ number (d .answer) → u ≡ left t (d .answer) (d .state)
     → AskLeaves t (asked (stateOf t)) r u (d .rows) (d .count)
 ask-leaves t s d r u es ed er eu =
-    let is : d ≡ asked (stateOf t) = ed ∙ ap asked es in
-    let e : u ≡ left t (asked (stateOf t) .answer) (asked (stateOf t) .state) = eu ∙ ap (λ (x : Asked). left t (x .answer) (x .state)) is in
+    let is : d ≡ asked (stateOf t) .result = ap (λ (x : Ask). x .result) (ed ∙ ap asked es) in
+    let e : u ≡ left t (asked (stateOf t) .result .answer) (asked (stateOf t) .result .state) = eu ∙ ap (λ (x : Asked). left t (x .answer) (x .state)) is in
     record {
       answer-is = er ∙ ap (λ (x : Asked). number (x .answer)) is;
-      state-is = ap stateOf e ∙ state-left t (asked (stateOf t) .answer) (asked (stateOf t) .state) (ask-kept (stateOf t));
+      state-is = ap stateOf e ∙ state-left t (asked (stateOf t) .result .answer) (asked (stateOf t) .result .state) (ask-kept (stateOf t));
       terminal-is = e;
       rows-is = ap (λ (x : Asked). x .rows) is;
       count-is = ap (λ (x : Asked). x .count) is;
     }
 
 pub feed-leaves : (t : Terminal) (s : State) (p i o : List ℕ) (d : Fed) (page reply : List ℕ) (r : ℕ) (u : Terminal)
-    → s ≡ stateOf t → FedAs (fed s p i o) d page reply → r ≡ number (d .answer) → u ≡ left t (d .answer) (d .state)
+    → s ≡ stateOf t → feedAs (d .answer) (d .read) (d .replied) (d .state) page reply ≡ fed s p i o → r ≡ number (d .answer) → u ≡ left t (d .answer) (d .state)
     → FeedLeaves t (fed (stateOf t) p i o) r u page reply (d .read) (d .replied)
 feed-leaves t s p i o d page reply r u es done er eu =
     let F = fed (stateOf t) p i o in
     let same : fed s p i o ≡ fed (stateOf t) p i o = ap (λ (x : State). fed x p i o) es in
-    let is : d ≡ fed (stateOf t) p i o .result = done .result ∙ ap (λ (x : Feed). x .result) same in
+    let is : d ≡ fed (stateOf t) p i o .result = ap (λ (x : Feed). x .result) (done ∙ same) in
     let e : u ≡ left t (F .result .answer) (F .result .state) = eu ∙ ap (λ (x : Fed). left t (x .answer) (x .state)) is in
     record {
       answer-is = er ∙ ap (λ (x : Fed). number (x .answer)) is;
       state-is = ap stateOf e ∙ state-left t (F .result .answer) (F .result .state) (feed-kept (stateOf t) p i o);
       terminal-is = e;
-      page-is = done .page-is ∙ ap (λ (x : Feed). x .page) same;
-      reply-is = done .reply-is ∙ ap (λ (x : Feed). x .reply) same;
+      page-is = ap (λ (x : Feed). x .page) (done ∙ same);
+      reply-is = ap (λ (x : Feed). x .reply) (done ∙ same);
       read-is = ap (λ (x : Fed). x .read) is;
       replied-is = ap (λ (x : Fed). x .replied) is;
     }
 
 pub read-leaves : (t : Terminal) (s : State) (p : List ℕ) (row column : ℕ) (d : CellRead) (r : ℕ)
-    → s ≡ stateOf t → d ≡ cellRead s p row column → r ≡ number (d .answer)
+    → s ≡ stateOf t → record { number = number (d .answer); result = d } ≡ cellRead s p row column → r ≡ number (d .answer)
     → ReadLeaves (cellRead (stateOf t) p row column) r (d .word)
 read-leaves t s p row column d r es ed er =
-    let is : d ≡ cellRead (stateOf t) p row column = ed ∙ ap (λ (x : State). cellRead x p row column) es in
+    let is : d ≡ cellRead (stateOf t) p row column .result = ap (λ (x : Read). x .result) (ed ∙ ap (λ (x : State). cellRead x p row column) es) in
     record {
       answer-is = er ∙ ap (λ (x : CellRead). number (x .answer)) is;
       word-is = ap (λ (x : CellRead). x .word) is;

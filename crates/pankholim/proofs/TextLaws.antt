@@ -7,8 +7,8 @@ use lib.Dec.{leb}
 use lib.ListN.{length}
 use Rattle.text.specs.declared.Written.{Written}
 use Rattle.text.specs.declared.Written.the-variants.{Whole, NoRoom}
-use Rattle.text.specs.Text.{pageText, written, Write, writeGives}
-use Rattle.pankholim.specs.Leaves.{WriteLeaves, writtenNumber}
+use Rattle.text.specs.Text.{pageText, writtenNumber, written, Write, writeAs, writeGives}
+use Rattle.pankholim.specs.Leaves.{WriteLeaves}
 
 -- the bytes that a text takes, as an answer has them
 abbrev taken : ℕ → Written → ℕ
@@ -24,7 +24,10 @@ module _ (p o : List ℕ) where
       by-answer true = refl
       by-answer false = refl
 
-  module _ (w : Written) (b : List ℕ) (e : written p o ≡ record { result = w; buffer = b }) where
+  module _ (w : Written) (b : List ℕ) (done : writeAs w b ≡ written p o) where
+    e : written p o ≡ writeAs w b
+    e = sym done
+
     pub leaves-whole : (n : ℕ) → w ≡ Whole n → WriteLeaves p o 0 b n
     leaves-whole n is = record {
       answer-is = sym (ap (λ (d : Write). writtenNumber (d .result)) e ∙ ap writtenNumber is);

@@ -6,14 +6,12 @@ use Prim.Native.Nat.{ℕ}
 use lib.ListN.{length}
 use Rattle.terminal.specs.declared.Answer.{Answer}
 use Rattle.terminal.specs.declared.State.{State}
-use Rattle.terminal.specs.declared.Asked.{Asked}
-use Rattle.terminal.specs.declared.CellRead.{CellRead}
 use Rattle.terminal.specs.Answers.{number, refusal}
 use Rattle.terminal.specs.Start.{Start}
 use Rattle.terminal.specs.Feed.{Feed}
-use Rattle.text.specs.declared.Written.{Written}
-use Rattle.text.specs.declared.Written.the-variants.{Whole, NoRoom}
-use Rattle.text.specs.Text.{pageText, written}
+use Rattle.terminal.specs.Ask.{Ask}
+use Rattle.terminal.specs.Read.{Read}
+use Rattle.text.specs.Text.{pageText, writtenNumber, written}
 use Rattle.pankholim.specs.declared.record.Terminal.{Terminal}
 use Rattle.pankholim.specs.Record.{stateOf, recordOf}
 
@@ -39,22 +37,17 @@ pub record FeedLeaves (t : Terminal) (d : Feed) (r : ℕ) (terminal : Terminal) 
   pub replied-is : replied ≡ d .result .replied
 
 -- t is the record at entry, and d is `asked` of its state; the number returned, and the record, the changed rows and how many they are at exit
-pub record AskLeaves (t : Terminal) (d : Asked) (r : ℕ) (terminal : Terminal) (rows count : ℕ) : Type 0 where
-  pub answer-is : r ≡ number (d .answer)
-  pub state-is : stateOf terminal ≡ d .state
-  pub terminal-is : terminal ≡ left t (d .answer) (d .state)
-  pub rows-is : rows ≡ d .rows
-  pub count-is : count ≡ d .count
+pub record AskLeaves (t : Terminal) (d : Ask) (r : ℕ) (terminal : Terminal) (rows count : ℕ) : Type 0 where
+  pub answer-is : r ≡ number (d .result .answer)
+  pub state-is : stateOf terminal ≡ d .result .state
+  pub terminal-is : terminal ≡ left t (d .result .answer) (d .result .state)
+  pub rows-is : rows ≡ d .result .rows
+  pub count-is : count ≡ d .result .count
 
 -- d is `cellRead` of a record's state, a page, a row and a column; the number returned, and the word at exit
-pub record ReadLeaves (d : CellRead) (r word : ℕ) : Type 0 where
-  pub answer-is : r ≡ number (d .answer)
-  pub word-is : word ≡ d .word
-
--- 0, or 3 where the buffer is too small
-abbrev pub writtenNumber : Written → ℕ
-writtenNumber (Whole n) = 0
-writtenNumber NoRoom = 3
+pub record ReadLeaves (d : Read) (r word : ℕ) : Type 0 where
+  pub answer-is : r ≡ number (d .result .answer)
+  pub word-is : word ≡ d .result .word
 
 -- a page and a buffer; the number returned, and the buffer and the bytes that the text takes at exit
 pub record WriteLeaves (p o : List ℕ) (r : ℕ) (out : List ℕ) (len : ℕ) : Type 0 where

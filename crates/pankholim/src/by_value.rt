@@ -46,7 +46,7 @@ fn record_left(terminal: Terminal, answer: Answer, state: State) -> Terminal
 pub fn start(rows: u8, page: &mut [u16]) -> Left
     ensures { λ r. ⌜ leaving.StartLeaves (started rows (now (page .entry))) (r .answer) (r .terminal) (now (page .exit)) ⌝ }
 {
-    let done = calls::start(rows, page);
+    let done = calls::start(rows as usize, page);
     let answer = done.answer;
     Left {
         answer: number(answer),

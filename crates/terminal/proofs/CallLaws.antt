@@ -18,7 +18,7 @@ use Rattle.terminal.specs.Whole.{wholeState, WholeState}
 use Rattle.terminal.specs.Start.{startAnswer, startGives, started}
 use Rattle.terminal.specs.Feed.{Feed, readCount, fitting, screen, feedFirst, feedRefused, feedGives, fed}
 use Rattle.terminal.specs.Ask.{askDone, askRefused, asked}
-use Rattle.terminal.specs.Read.{onPage, readAnswer, readWord, cellRead}
+use Rattle.terminal.specs.Read.{onPage, readAnswer, readGives, cellRead}
 use Rattle.terminal.proofs.StepLaws.{Sane}
 
 -- ---- whole states
@@ -136,16 +136,16 @@ pub asked-broken : (s : State) → wholeState s ≡ false → asked s ≡ askRef
 unfolding asked
 asked-broken s e = rw e
 
-pub asked-whole : (s : State) → refusal (asked s .answer) ≡ false → wholeState s ≡ true
+pub asked-whole : (s : State) → refusal (asked s .result .answer) ≡ false → wholeState s ≡ true
 asked-whole s h = go (wholeState s) refl
   where
     go : (t : Bool) → wholeState s ≡ t → wholeState s ≡ true
     go true e = e
     go false e = absurd (true≢false (rw (asked-broken s e) at h))
 
-pub read-as : (s : State) (p : List ℕ) (r c : ℕ) (a : Answer) → readAnswer s p r c ≡ a → cellRead s p r c ≡ record { answer = a; word = readWord a p r c }
+pub read-as : (s : State) (p : List ℕ) (r c : ℕ) (a : Answer) → readAnswer s p r c ≡ a → cellRead s p r c ≡ readGives a p r c
 unfolding cellRead
-read-as s p r c a e = ap (λ (x : Answer). record { answer = x; word = readWord x p r c }) e
+read-as s p r c a e = ap (λ (x : Answer). readGives x p r c) e
 
 -- ---- the start
 

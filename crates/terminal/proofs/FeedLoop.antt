@@ -28,8 +28,9 @@ use Rattle.terminal.specs.declared.State.{State}
 use Rattle.terminal.specs.declared.Answer.{Answer}
 use Rattle.terminal.specs.declared.Answer.the-variants.{Done, NoRoom}
 use Rattle.terminal.specs.Steps.{Screen, Marked, edited, stepped, ran, ranCore, sent, readable}
-use Rattle.terminal.specs.Feed.{readCount, fitting, screen, feedFirst}
-use Rattle.terminal.specs.Ready.{Ready, FedAs}
+use Rattle.terminal.specs.Answers.{number}
+use Rattle.terminal.specs.Feed.{readCount, fitting, screen, feedAs, feedFirst}
+use Rattle.terminal.specs.Ready.{Ready}
 use Rattle.terminal.proofs.StepLaws.{ran-append, ran-core, sent-append, readable-fits, readable-full, edited-page, edited-changed, Sane, sane-step}
 
 -- ---- one byte
@@ -111,17 +112,12 @@ module _ {s₀ : State} {p₀ input o₀ : List ℕ} {i : ℕ} {s : State} {p o 
 
   -- the loop is left with this answer
   ended : (a : Answer) → fitting s₀ input o₀ ≡ a → readable (length o₀) (s₀ .core) input ≡ i
-      → FedAs (feedFirst (fitting s₀ input o₀) (readCount s₀ input o₀) s₀ p₀ input o₀) (record { answer = a; read = i; replied = n; state = s }) p o
-  ended a ea en = record {
-    result = λ j. record {
-      answer = sym ea j;
-      read = sym en j;
-      replied = (R .sending .ends ∙ zero-add (length (sent (s₀ .core) (take i input))) ∙ ap (λ (k : ℕ). length (sent (s₀ .core) (take k input))) (sym en)) j;
-      state = record { core = whole j .core; changed = whole j .changed };
-    };
-    page-is = ap (λ (d : Screen). d .page) whole;
-    reply-is = R .sending .is ∙ ap (λ (k : ℕ). lib.Seq.sets o₀ 0 (sent (s₀ .core) (take k input))) (sym en);
-  }
+      → feedAs a i n s p o ≡ feedFirst (fitting s₀ input o₀) (readCount s₀ input o₀) s₀ p₀ input o₀
+  ended a ea en = λ j. feedAs (sym ea j) (sym en j)
+      ((R .sending .ends ∙ zero-add (length (sent (s₀ .core) (take i input))) ∙ ap (λ (k : ℕ). length (sent (s₀ .core) (take k input))) (sym en)) j)
+      (record { core = whole j .core; changed = whole j .changed })
+      (whole j .page)
+      ((R .sending .is ∙ ap (λ (k : ℕ). lib.Seq.sets o₀ 0 (sent (s₀ .core) (take k input))) (sym en)) j)
     where
       whole : screen s p ≡ ran (screen s₀ p₀) (take (readable (length o₀) (s₀ .core) input) input)
       whole = R .screen-is ∙ ap (λ (k : ℕ). ran (screen s₀ p₀) (take k input)) (sym en)
@@ -163,7 +159,7 @@ module _ {s₀ : State} {p₀ input o₀ : List ℕ} {i : ℕ} {s : State} {p o 
         }
 
     pub running-full : length o₀ - n < length (sends (s .core) b)
-        → FedAs (feedFirst (fitting s₀ input o₀) (readCount s₀ input o₀) s₀ p₀ input o₀) (record { answer = NoRoom; read = i; replied = n; state = s }) p o
+        → feedAs NoRoom i n s p o ≡ feedFirst (fitting s₀ input o₀) (readCount s₀ input o₀) s₀ p₀ input o₀
     running-full full =
         let en : readable (length o₀) (s₀ .core) input ≡ i =
         R .left ∙ ap (λ (l : List ℕ). i + readable (length o₀ - n) (s .core) l) rest
@@ -171,7 +167,7 @@ module _ {s₀ : State} {p₀ input o₀ : List ℕ} {i : ℕ} {s : State} {p o 
         ended NoRoom (rw (en, lt-ltb i (length input) more)) en
 
   pub running-done : length input ≤ i
-      → FedAs (feedFirst (fitting s₀ input o₀) (readCount s₀ input o₀) s₀ p₀ input o₀) (record { answer = Done; read = i; replied = n; state = s }) p o
+      → feedAs Done i n s p o ≡ feedFirst (fitting s₀ input o₀) (readCount s₀ input o₀) s₀ p₀ input o₀
   unfolding readable
   running-done all =
       let en : readable (length o₀) (s₀ .core) input ≡ i =

@@ -6,31 +6,35 @@ use Rattle.terminal.specs.declared.State.{State}
 use Rattle.terminal.specs.declared.Asked.{Asked}
 use Rattle.terminal.specs.declared.Answer.{Answer}
 use Rattle.terminal.specs.declared.Answer.the-variants.{Done, Broken, WrongSize, NoRoom, OffPage}
+use Rattle.terminal.specs.Answers.{number}
 use Rattle.terminal.specs.Whole.{wholeState}
+
+-- the answer's number, and the result
+pub record Ask : Type 0 where
+  pub number : ℕ
+  pub result : Asked
 
 -- given exactly when
 abbrev pub askAnswer : State → Answer
 askAnswer s = cond (wholeState s) Done Broken
 
-abbrev pub askDone : State → Asked
-askDone s = record {
-  answer = Done;
-  rows = s .changed;
-  count = sizeOf (s .core .rows) (hasBit (s .changed));
-  state = record { core = s .core; changed = 0 };
-}
+abbrev pub askAs : Answer → ℕ → ℕ → State → Ask
+askAs a rows count s = record { number = number a; result = record { answer = a; rows = rows; count = count; state = s } }
+
+abbrev pub askDone : State → Ask
+askDone s = askAs Done (s .changed) (sizeOf (s .core .rows) (hasBit (s .changed))) (record { core = s .core; changed = 0 })
 
 -- the empty set, 0, and the state as it came
-abbrev pub askRefused : Answer → State → Asked
-askRefused a s = record { answer = a; rows = 0; count = 0; state = s }
+abbrev pub askRefused : Answer → State → Ask
+askRefused a s = askAs a 0 0 s
 
 -- returned. Asking answers 0 or 1.
-abbrev pub askGives : Answer → State → Asked
+abbrev pub askGives : Answer → State → Ask
 askGives Done s = askDone s
 askGives Broken s = askRefused Broken s
 askGives WrongSize s = askRefused WrongSize s
 askGives NoRoom s = askRefused NoRoom s
 askGives OffPage s = askRefused OffPage s
 
-unfoldable pub asked : State → Asked
+unfoldable pub asked : State → Ask
 asked s = askGives (askAnswer s) s

@@ -27,7 +27,6 @@ use Rattle.dispatch.specs.Decide.{executed, decided, sends}
 use Rattle.terminal.specs.Steps.{stepped, ran, sent, readable}
 use Rattle.terminal.specs.Whole.{wholeState}
 use Rattle.terminal.specs.declared.State.{State}
-use Rattle.terminal.specs.Answers.{number}
 use Rattle.terminal.specs.Start.{fresh, blankPage}
 use Rattle.terminal.specs.Feed.{Feed, fed}
 use Rattle.terminal.specs.Ask.{asked}
@@ -86,14 +85,14 @@ abbrev pub feeding : Session → List ℕ → ℕ → ℕ → ℕ → List ℕ �
 feeding w i room answer read reply =
     let f = fed (w .state) (w .page) i (replicate room 0) in
     record {
-      good = (eqb (number (f .result .answer)) answer && eqb (f .result .read) read)
+      good = (eqb (f .number) answer && eqb (f .result .read) read)
           && (eqb (f .result .replied) (length reply) && same (take (length reply) (f .reply)) reply);
       next = record { state = f .result .state; page = f .page };
     }
 
 abbrev pub asking : Session → List ℕ → Outcome
 asking w rs =
-    let a = asked (w .state) in
+    let a = asked (w .state) .result in
     record {
       good = eqb (a .rows) (bitsOf 24 (listed rs)) && eqb (a .count) (length rs);
       next = record { state = a .state; page = w .page };

@@ -9,10 +9,13 @@ use Rattle.terminal.specs.declared.State.{State}
 use Rattle.terminal.specs.declared.Fed.{Fed}
 use Rattle.terminal.specs.declared.Answer.{Answer}
 use Rattle.terminal.specs.declared.Answer.the-variants.{Done, Broken, WrongSize, NoRoom, OffPage}
+use Rattle.terminal.specs.Answers.{number}
 use Rattle.terminal.specs.Steps.{Screen, ran, sent, readable}
 use Rattle.terminal.specs.Whole.{wholeState, rightSize}
 
+-- the answer's number, the result, and what is left in the page and the reply buffer
 pub record Feed : Type 0 where
+  pub number : ℕ
   pub result : Fed
   pub page : List ℕ
   pub reply : List ℕ
@@ -32,20 +35,20 @@ feedAnswer s p i o = cond (wholeState s) (cond (rightSize (s .core .rows) p) (fi
 abbrev pub screen : State → List ℕ → Screen
 screen s p = record { core = s .core; page = p; changed = s .changed }
 
+abbrev pub feedAs : Answer → ℕ → ℕ → State → List ℕ → List ℕ → Feed
+feedAs a read replied s p o =
+    record { number = number a; result = record { answer = a; read = read; replied = replied; state = s }; page = p; reply = o }
+
 -- the first n bytes of the input are read, and their replies stand at the front of the buffer
 abbrev pub feedFirst : Answer → ℕ → State → List ℕ → List ℕ → List ℕ → Feed
 feedFirst a n s p i o =
     let d = ran (screen s p) (take n i) in
     let out = sent (s .core) (take n i) in
-    record {
-      result = record { answer = a; read = n; replied = length out; state = record { core = d .core; changed = d .changed } };
-      page = d .page;
-      reply = sets o 0 out;
-    }
+    feedAs a n (length out) (record { core = d .core; changed = d .changed }) (d .page) (sets o 0 out)
 
 -- nothing read, nothing sent, all as it came
 abbrev pub feedRefused : Answer → State → List ℕ → List ℕ → Feed
-feedRefused a s p o = record { result = record { answer = a; read = 0; replied = 0; state = s }; page = p; reply = o }
+feedRefused a s p o = feedAs a 0 0 s p o
 
 -- returned and left. Feeding does not answer 4.
 abbrev pub feedGives : Answer → State → List ℕ → List ℕ → List ℕ → Feed

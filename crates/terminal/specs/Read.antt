@@ -9,6 +9,7 @@ use Rattle.terminal.specs.declared.State.{State}
 use Rattle.terminal.specs.declared.CellRead.{CellRead}
 use Rattle.terminal.specs.declared.Answer.{Answer}
 use Rattle.terminal.specs.declared.Answer.the-variants.{Done, Broken, WrongSize, NoRoom, OffPage}
+use Rattle.terminal.specs.Answers.{number}
 use Rattle.terminal.specs.Whole.{wholeState, rightSize}
 
 abbrev pub onPage : ℕ → ℕ → ℕ → Bool
@@ -16,6 +17,11 @@ onPage rows r c = between 1 r rows && between 1 c 80
 
 abbrev pub cellAt : List ℕ → ℕ → ℕ → ℕ
 cellAt p r c = getD p (80 * (r - 1) + (c - 1)) 0
+
+-- the answer's number, and the result
+pub record Read : Type 0 where
+  pub number : ℕ
+  pub result : CellRead
 
 -- given exactly when
 abbrev pub readAnswer : State → List ℕ → ℕ → ℕ → Answer
@@ -32,7 +38,9 @@ readWord WrongSize p r c = blank
 readWord NoRoom p r c = blank
 readWord OffPage p r c = blank
 
-unfoldable pub cellRead : State → List ℕ → ℕ → ℕ → CellRead
-cellRead s p r c =
-    let a = readAnswer s p r c in
-    record { answer = a; word = readWord a p r c }
+-- returned
+abbrev pub readGives : Answer → List ℕ → ℕ → ℕ → Read
+readGives a p r c = record { number = number a; result = record { answer = a; word = readWord a p r c } }
+
+unfoldable pub cellRead : State → List ℕ → ℕ → ℕ → Read
+cellRead s p r c = readGives (readAnswer s p r c) p r c

@@ -10,6 +10,7 @@ use Rattle.terminal.specs.declared.State.{State}
 use Rattle.terminal.specs.declared.Started.{Started}
 use Rattle.terminal.specs.declared.Answer.{Answer}
 use Rattle.terminal.specs.declared.Answer.the-variants.{Done, Broken, WrongSize, NoRoom, OffPage}
+use Rattle.terminal.specs.Answers.{number}
 use Rattle.terminal.specs.Whole.{rightSize}
 
 abbrev pub fresh : ℕ → State
@@ -18,8 +19,9 @@ fresh r = record { core = freshCore r; changed = 0 }
 abbrev pub blankPage : ℕ → List ℕ
 blankPage r = replicate (80 * r) blank
 
--- the result, and what is left in the page
+-- the answer's number, the result, and what is left in the page
 pub record Start : Type 0 where
+  pub number : ℕ
   pub result : Started
   pub page : List ℕ
 
@@ -27,12 +29,15 @@ pub record Start : Type 0 where
 abbrev pub startAnswer : ℕ → List ℕ → Answer
 startAnswer r p = cond (sized r) (cond (rightSize r p) Done WrongSize) Broken
 
+abbrev pub startAs : Answer → State → List ℕ → Start
+startAs a s p = record { number = number a; result = record { answer = a; state = s }; page = p }
+
 abbrev pub startRefused : Answer → List ℕ → Start
-startRefused a p = record { result = record { answer = a; state = fresh 24 }; page = p }
+startRefused a p = startAs a (fresh 24) p
 
 -- returned and left. A start gives no other answers.
 abbrev pub startGives : Answer → ℕ → List ℕ → Start
-startGives Done r p = record { result = record { answer = Done; state = fresh r }; page = blankPage r }
+startGives Done r p = startAs Done (fresh r) (blankPage r)
 startGives Broken r p = startRefused Broken p
 startGives WrongSize r p = startRefused WrongSize p
 startGives NoRoom r p = startRefused NoRoom p

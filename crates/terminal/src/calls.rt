@@ -11,12 +11,11 @@ use cells::edits::clear;
 use cells::marks::count_rows;
 use vt::fresh::fresh_core;
 ghost use mathlib.Core.Path.{_≡_};
-ghost use Rattle.vt.specs.Whole.{sized};
+ghost use Rattle.terminal.specs.Answers.{number};
 ghost use Rattle.terminal.specs.Start as starting;
 ghost use Rattle.terminal.specs.Feed.{fed};
 ghost use Rattle.terminal.specs.Ask.{asked};
 ghost use Rattle.terminal.specs.Read.{cellRead};
-ghost use Rattle.terminal.specs.Ready.{StartedAs, FedAs};
 
 fn fresh(rows: u8) -> State
     ensures { λ r. ⌜ r ≡ starting.fresh rows ⌝ }
@@ -28,8 +27,8 @@ fn fresh(rows: u8) -> State
 }
 
 // Starts a page of 24, 36 or 48 rows: every cell blank, the state fresh.
-pub fn start(rows: u8, page: &mut [u16]) -> Started
-    ensures { λ r. ⌜ StartedAs (starting.started rows (now (page .entry))) r (now (page .exit)) ⌝ }
+pub fn start(rows: usize, page: &mut [u16]) -> Started
+    ensures { λ r. ⌜ record { number = number (r .answer); result = r; page = now (page .exit) } ≡ starting.started rows (now (page .entry)) ⌝ }
 {
     if !((rows == 24) | (rows == 36) | (rows == 48)) {
         return Started {
@@ -37,7 +36,7 @@ pub fn start(rows: u8, page: &mut [u16]) -> Started
             state: fresh(24),
         };
     }
-    if page.len() != 80 * (rows as usize) {
+    if page.len() != 80 * rows {
         return Started {
             answer: Answer::WrongSize,
             state: fresh(24),
@@ -46,13 +45,13 @@ pub fn start(rows: u8, page: &mut [u16]) -> Started
     clear(page);
     Started {
         answer: Answer::Done,
-        state: fresh(rows),
+        state: fresh(rows as u8),
     }
 }
 
 // Feeds bytes from the modem, until the input ends or a reply does not fit.
 pub fn feed(state: State, page: &mut [u16], input: &[u8], reply: &mut [u8]) -> Fed
-    ensures { λ r. ⌜ FedAs (fed state (now (page .entry)) (now (input .entry)) (now (reply .entry))) r (now (page .exit)) (now (reply .exit)) ⌝ }
+    ensures { λ r. ⌜ record { number = number (r .answer); result = r; page = now (page .exit); reply = now (reply .exit) } ≡ fed state (now (page .entry)) (now (input .entry)) (now (reply .entry)) ⌝ }
 {
     if !is_whole(state) {
         return Fed {
@@ -77,7 +76,7 @@ pub fn feed(state: State, page: &mut [u16], input: &[u8], reply: &mut [u8]) -> F
 
 // Asks for the changed rows, and empties the set.
 pub fn ask(state: State) -> Asked
-    ensures { λ r. ⌜ r ≡ asked state ⌝ }
+    ensures { λ r. ⌜ record { number = number (r .answer); result = r } ≡ asked state ⌝ }
 {
     if !is_whole(state) {
         return Asked {
@@ -100,7 +99,7 @@ pub fn ask(state: State) -> Asked
 
 // Reads a cell by its row and column, counted from 1.
 pub fn read(state: State, page: &[u16], row: usize, column: usize) -> CellRead
-    ensures { λ r. ⌜ r ≡ cellRead state (now (page .entry)) row column ⌝ }
+    ensures { λ r. ⌜ record { number = number (r .answer); result = r } ≡ cellRead state (now (page .entry)) row column ⌝ }
 {
     if !is_whole(state) {
         return CellRead {

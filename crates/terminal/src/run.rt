@@ -16,8 +16,9 @@ ghost use Prim.Native.Nat.{ℕ, _≤_};
 ghost use lib.ListN.{length};
 ghost use Rattle.parser.specs.Parser.{decode};
 ghost use Rattle.terminal.specs.Steps.{stepped};
+ghost use Rattle.terminal.specs.Answers.{number};
 ghost use Rattle.terminal.specs.Feed.{screen, fitting, readCount, feedFirst};
-ghost use Rattle.terminal.specs.Ready.{Ready, FedAs};
+ghost use Rattle.terminal.specs.Ready.{Ready};
 
 // One byte, decoded: its step or steps. `byte` is there for the promise alone.
 fn step(core: Core, changed: u64, byte: u8, decoded: Decoded, page: &mut [u16]) -> State
@@ -56,8 +57,9 @@ fn ended(answer: Answer, read: usize, replied: usize, core: Core, changed: u64) 
 // only move the parser, then one of any kind.
 pub fn run(state: State, page: &mut [u16], input: &[u8], reply: &mut [u8]) -> Fed
     requires { ⌜ Ready state (now page) ⌝ }
-    ensures { λ r. ⌜ FedAs (feedFirst (fitting state (now (input .entry)) (now (reply .entry))) (readCount state (now (input .entry)) (now (reply .entry)))
-        state (now (page .entry)) (now (input .entry)) (now (reply .entry))) r (now (page .exit)) (now (reply .exit)) ⌝ }
+    ensures { λ r. ⌜ record { number = number (r .answer); result = r; page = now (page .exit); reply = now (reply .exit) }
+        ≡ feedFirst (fitting state (now (input .entry)) (now (reply .entry))) (readCount state (now (input .entry)) (now (reply .entry)))
+        state (now (page .entry)) (now (input .entry)) (now (reply .entry)) ⌝ }
 {
     let mut core = state.core;
     let mut changed = state.changed;

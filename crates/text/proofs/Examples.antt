@@ -32,10 +32,10 @@ unfolding unpacked sign encoded
 signs = refl
 
 -- a row that fits, and one that does not
-pub whole : written (0x48 ∷ 0x69 ∷ replicate 78 0x20) (1 ∷ 2 ∷ 3 ∷ 4 ∷ []) ≡ record { result = Whole 3; buffer = 0x48 ∷ 0x69 ∷ 0x0A ∷ 4 ∷ [] }
+pub whole : written (0x48 ∷ 0x69 ∷ replicate 78 0x20) (1 ∷ 2 ∷ 3 ∷ 4 ∷ []) ≡ record { number = 0; result = Whole 3; buffer = 0x48 ∷ 0x69 ∷ 0x0A ∷ 4 ∷ [] }
 unfolding unpacked sign trimmed encoded lines textOf written
 whole = refl
 
-pub no-room : written (0x48 ∷ 0x69 ∷ replicate 78 0x20) (1 ∷ 2 ∷ []) ≡ record { result = NoRoom; buffer = 1 ∷ 2 ∷ [] }
+pub no-room : written (0x48 ∷ 0x69 ∷ replicate 78 0x20) (1 ∷ 2 ∷ []) ≡ record { number = 3; result = NoRoom; buffer = 1 ∷ 2 ∷ [] }
 unfolding unpacked sign trimmed encoded lines textOf written
 no-room = refl

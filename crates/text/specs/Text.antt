@@ -92,8 +92,14 @@ pageText p = textOf (length p / 80) p
 
 -- ---- writing it into a buffer
 
--- the result, and what is left in the buffer
+-- document 01's numbers
+abbrev pub writtenNumber : Written → ℕ
+writtenNumber (Whole n) = 0
+writtenNumber NoRoom = 3
+
+-- the answer's number, the result, and what is left in the buffer
 pub record Write : Type 0 where
+  pub number : ℕ
   pub result : Written
   pub buffer : List ℕ
 
@@ -101,10 +107,13 @@ pub record Write : Type 0 where
 abbrev pub writeAnswer : List ℕ → List ℕ → Written
 writeAnswer t o = cond (leb (length t) (length o)) (Whole (length t)) NoRoom
 
+abbrev pub writeAs : Written → List ℕ → Write
+writeAs w o = record { number = writtenNumber w; result = w; buffer = o }
+
 -- returned and left
 abbrev pub writeGives : Written → List ℕ → List ℕ → Write
-writeGives (Whole n) t o = record { result = Whole n; buffer = sets o 0 t }
-writeGives NoRoom t o = record { result = NoRoom; buffer = o }
+writeGives (Whole n) t o = writeAs (Whole n) (sets o 0 t)
+writeGives NoRoom t o = writeAs NoRoom o
 
 -- a page and a buffer
 unfoldable pub written : List ℕ → List ℕ → Write

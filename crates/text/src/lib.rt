@@ -9,7 +9,7 @@ ghost use mathlib.Core.Path.{_≡_};
 ghost use Prim.Native.Nat.{_+_, _*_, _≤_};
 ghost use lib.ListN.{length};
 ghost use Rattle.cells.specs.Rows.{row};
-ghost use Rattle.text.specs.Text.{pageText, written};
+ghost use Rattle.text.specs.Text.{pageText, writtenNumber, written};
 ghost use Rattle.cells.specs.Writes.{Wrote};
 
 // What writing a page as text answers.
@@ -61,7 +61,7 @@ fn write_rows(page: &[u16], out: &mut [u8]) -> usize
 
 // Writes the text of a page into a buffer, whole or not at all.
 pub fn write_text(page: &[u16], out: &mut [u8]) -> Written
-    ensures { λ r. ⌜ written (now (page .entry)) (now (out .entry)) ≡ record { result = r; buffer = now (out .exit) } ⌝ }
+    ensures { λ r. ⌜ record { number = writtenNumber r; result = r; buffer = now (out .exit) } ≡ written (now (page .entry)) (now (out .entry)) ⌝ }
 {
     if out.len() < text_len(page) {
         return Written::NoRoom;

@@ -6,7 +6,7 @@ use native.Mathlib.Omega.{arith}
 use lib.ListN.{length}
 use borrow.Author.Needs.{needs}
 use Rattle.text.specs.declared.Written.the-variants.{Whole}
-use Rattle.text.specs.Text.{pageText, Write}
+use Rattle.text.specs.Text.{pageText, writeAs}
 use Rattle.text.proofs.TextLaws.{written-whole, written-none}
 use Rattle.text.proofs.write_text.Statement.{statement}
 use Rattle.text.proofs.write_text.Tie as tie
@@ -15,7 +15,7 @@ text-len-requires : tie.Need-text-len-requires
 text-len-requires c κs = search needs
 
 returns : tie.Need-returns
-returns c = written-none _ _ (omega arith)
+returns c = sym (written-none _ _ (omega arith))
 
 write-rows-requires : tie.Need-write-rows-requires
 write-rows-requires c κs = search needs
@@ -30,8 +30,7 @@ returns-2 c =
     let page = start .args .page .now in
     let out = start .args .out .now in
     let count : length (pageText page) ≡ rows .write-rows .result = omega (arith, rows .write-rows .ensures) in
-    written-whole page out (omega arith)
-    ∙ ap₂ {C = Write} (λ (n : ℕ) (l : List ℕ). record { result = Whole n; buffer = l }) count (sym (rows .write-rows .ensures .is))
+    sym (written-whole page out (omega arith) ∙ ap₂ (λ (n : ℕ) (l : List ℕ). writeAs (Whole n) l) count (sym (rows .write-rows .ensures .is)))
 
 pub write-text-spec : {M : Type 1} → statement M
 write-text-spec =

@@ -1,5 +1,5 @@
 -- Each return is the definition's case, by the tests that led there.
-use mathlib.Core.Path.{_≡_, refl, sym, _∙_}
+use mathlib.Core.Path.{_≡_, sym, _∙_}
 use borrow.Author.Tests.{not-true, not-false}
 use Rattle.terminal.proofs.CallLaws.{state-facts, fed-broken, fed-size, fed-run}
 use borrow.Author.Needs.{needs}
@@ -13,7 +13,6 @@ returns : tie.Need-returns
 returns c =
     let a = c .before .before .before .before .before .args in
     rw (fed-broken (a .state) (a .page .now) (a .input .now) (a .reply .now) (sym (c .before .is-whole .ensures) ∙ not-true _ (c .if1 .taken)))
-    (record { result = refl; page-is = refl; reply-is = refl })
 
 cast-if2 : tie.Need-cast-if2
 cast-if2 c = search needs
@@ -26,7 +25,6 @@ returns-2 c =
     let w = c .before .before .before in
     let a = w .before .before .before .before .args in
     rw (fed-size (a .state) (a .page .now) (a .input .now) (a .reply .now) (sym (w .is-whole .ensures) ∙ not-false _ (c .before .before .if1 .left)) (c .if2 .taken))
-    (record { result = refl; page-is = refl; reply-is = refl })
 
 run-requires : tie.Need-run-requires
 run-requires c κs =
