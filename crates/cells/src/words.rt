@@ -6,8 +6,9 @@ ghost use mathlib.Core.Path.{_≡_};
 ghost use Prim.Native.Nat.{_<_};
 ghost use Rattle.cells.specs.Cells.{setNumber, setOf, bit, flag, renditionBits, packed, unpacked, spaced, selectivelyErased};
 
-fn set_number(set: CharSet) -> u16
-    ensures { λ r. ⌜ (r ≡ setNumber set) × (r < 4) ⌝ }
+// Sets as numbers, and back. A number past the last counts as the last.
+pub fn set_number(set: CharSet) -> u8
+    ensures { λ r. ⌜ r ≡ setNumber set ⌝ }
 {
     match set {
         CharSet::Ascii => 0,
@@ -17,7 +18,7 @@ fn set_number(set: CharSet) -> u16
     }
 }
 
-fn set_of(number: u16) -> CharSet
+pub fn set_of(number: u8) -> CharSet
     ensures { λ r. ⌜ r ≡ setOf number ⌝ }
 {
     match number {
@@ -57,7 +58,7 @@ pub fn pack(cell: Cell) -> u16
     let rendition = cell.rendition;
     let code = cell.code % 128;
     code as u16
-        + 128 * set_number(set)
+        + 128 * set_number(set) as u16
         + 512 * rendition_bits(rendition)
         + 8192 * bit_of(cell.protected)
 }
@@ -72,7 +73,8 @@ pub fn unpack(word: u16) -> Cell
         blink: flag_of(word / 2048),
         reverse: flag_of(word / 4096),
     };
-    let set = set_of(word / 128 % 4);
+    let number = word / 128 % 4;
+    let set = set_of(number as u8);
     let code = word % 128;
     Cell {
         code: code as u8,

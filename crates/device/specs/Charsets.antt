@@ -1,6 +1,7 @@
 -- Character sets: designation to G0 to G3, GL and GR.
-use mathlib.Core.Bool.{Bool, true, false}
+use mathlib.Core.Bool.{Bool, true, false, cond}
 use Prim.Native.Nat.{ℕ}
+use lib.Dec.{eqb}
 use Rattle.cells.specs.declared.CharSet.{CharSet}
 use Rattle.cells.specs.declared.CharSet.the-variants.{Ascii, SpecialGraphics, Supplemental, Latin1}
 use Rattle.device.specs.declared.charsets.Register.{Register}
@@ -47,3 +48,22 @@ leftSet s Ss3 = s .g3
 -- the set that A0 to FF uses
 abbrev pub rightSet : Sets → CharSet
 rightSet s = setIn s (s .gr)
+
+-- ---- registers and shifts as numbers, and back
+
+abbrev pub registerNumber : Register → ℕ
+registerNumber G0 = 0
+registerNumber G1 = 1
+registerNumber G2 = 2
+registerNumber G3 = 3
+
+abbrev pub registerOf : ℕ → Register
+registerOf n = cond (eqb n 0) G0 (cond (eqb n 1) G1 (cond (eqb n 2) G2 G3))
+
+abbrev pub shiftNumber : SingleShift → ℕ
+shiftNumber NoShift = 0
+shiftNumber Ss2 = 1
+shiftNumber Ss3 = 2
+
+abbrev pub shiftOf : ℕ → SingleShift
+shiftOf n = cond (eqb n 0) NoShift (cond (eqb n 1) Ss2 Ss3)

@@ -2,6 +2,7 @@
 use cells::CharSet;
 ghost use mathlib.Core.Path.{_≡_};
 ghost use Rattle.device.specs.Charsets.{freshSets, has96, setIn, designated, withGl, withGr, leftSet, rightSet};
+ghost use Rattle.device.specs.Charsets.{registerNumber, registerOf, shiftNumber, shiftOf};
 
 pub enum Register {
     G0,
@@ -25,6 +26,52 @@ pub struct Sets {
     pub gl: Register,
     pub gr: Register,
 }
+
+// ---- registers and shifts as numbers, and back; a number past the last counts as the last
+
+pub fn register_number(register: Register) -> u8
+    ensures { λ r. ⌜ r ≡ registerNumber register ⌝ }
+{
+    match register {
+        Register::G0 => 0,
+        Register::G1 => 1,
+        Register::G2 => 2,
+        Register::G3 => 3,
+    }
+}
+
+pub fn register_of(number: u8) -> Register
+    ensures { λ r. ⌜ r ≡ registerOf number ⌝ }
+{
+    match number {
+        0 => Register::G0,
+        1 => Register::G1,
+        2 => Register::G2,
+        _ => Register::G3,
+    }
+}
+
+pub fn shift_number(shift: SingleShift) -> u8
+    ensures { λ r. ⌜ r ≡ shiftNumber shift ⌝ }
+{
+    match shift {
+        SingleShift::NoShift => 0,
+        SingleShift::Ss2 => 1,
+        SingleShift::Ss3 => 2,
+    }
+}
+
+pub fn shift_of(number: u8) -> SingleShift
+    ensures { λ r. ⌜ r ≡ shiftOf number ⌝ }
+{
+    match number {
+        0 => SingleShift::NoShift,
+        1 => SingleShift::Ss2,
+        _ => SingleShift::Ss3,
+    }
+}
+
+// ---- sets
 
 // Latin-1 has 96 signs, the others 94.
 pub fn has_96(set: CharSet) -> bool

@@ -25,7 +25,9 @@ use Rattle.terminal.specs.declared.Answer.the-variants.{Done, Broken, WrongSize
 use Rattle.terminal.specs.declared.State.{State}
 use Rattle.terminal.specs.Answers.{refusal}
 use Rattle.pankholim.specs.declared.record.Terminal.{Terminal}
-use Rattle.pankholim.specs.Numbers.{flagNumber, flagOf, registerNumber, registerOf, shiftNumber, shiftOf, phaseNumber, phaseOf}
+use Rattle.device.specs.Charsets.{registerNumber, registerOf, shiftNumber, shiftOf}
+use Rattle.parser.specs.Phases.{phaseNumber, phaseOf}
+use Rattle.pankholim.specs.Numbers.{flagNumber, flagOf}
 use Rattle.pankholim.specs.Record.{cursorRecord, cursorOf, modesRecord, modesOf, renditionRecord, renditionOf, setsRecord, setsOf, savedRecord, savedOf, parserRecord, parserOf, recordOf, coreOf, stateOf, named, renditionNamed, modesNamed, setsNamed, savedNamed}
 use Rattle.pankholim.specs.Leaves.{left}
 

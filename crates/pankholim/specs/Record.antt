@@ -20,7 +20,9 @@ use Rattle.pankholim.specs.declared.record.SetsRecord.{SetsRecord}
 use Rattle.pankholim.specs.declared.record.SavedRecord.{SavedRecord}
 use Rattle.pankholim.specs.declared.record.ParserRecord.{ParserRecord}
 use Rattle.pankholim.specs.declared.record.Terminal.{Terminal}
-use Rattle.pankholim.specs.Numbers.{flagNumber, flagOf, registerNumber, registerOf, shiftNumber, shiftOf, phaseNumber, phaseOf}
+use Rattle.device.specs.Charsets.{registerNumber, registerOf, shiftNumber, shiftOf}
+use Rattle.parser.specs.Phases.{phaseNumber, phaseOf}
+use Rattle.pankholim.specs.Numbers.{flagNumber, flagOf}
 
 -- ---- the record of a state
 

@@ -4,6 +4,7 @@ use crate::record::record_of;
 use crate::state::state_of;
 use terminal::Answer;
 use terminal::State;
+use terminal::answers::number;
 use terminal::calls;
 ghost use mathlib.Core.Path.{_≡_};
 ghost use Rattle.terminal.specs.Answers as answers;
@@ -18,19 +19,6 @@ ghost use Rattle.pankholim.specs.Leaves as leaving;
 pub struct Left {
     pub answer: u8,
     pub terminal: Terminal,
-}
-
-// Document 01's numbers.
-fn number(answer: Answer) -> u8
-    ensures { λ r. ⌜ r ≡ answers.number answer ⌝ }
-{
-    match answer {
-        Answer::Done => 0,
-        Answer::Broken => 1,
-        Answer::WrongSize => 2,
-        Answer::NoRoom => 3,
-        Answer::OffPage => 4,
-    }
 }
 
 fn refused(answer: Answer) -> bool

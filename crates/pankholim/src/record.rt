@@ -1,13 +1,13 @@
 // A terminal as C holds it: numbers alone, so that any bytes are a record.
 use crate::numbers::flag_number;
-use crate::numbers::phase_number;
-use crate::numbers::register_number;
-use crate::numbers::set_number;
-use crate::numbers::shift_number;
 use cells::Rendition;
+use cells::words::set_number;
 use device::charsets::Sets;
+use device::charsets::register_number;
+use device::charsets::shift_number;
 use device::cursor::Cursor;
 use parser::parser::Parser;
+use parser::phases::phase_number;
 use terminal::State;
 use vt::core::Modes;
 use vt::core::Saved;

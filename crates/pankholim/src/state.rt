@@ -1,9 +1,5 @@
 // The state that a record holds.
 use crate::numbers::flag_of;
-use crate::numbers::phase_of;
-use crate::numbers::register_of;
-use crate::numbers::set_of;
-use crate::numbers::shift_of;
 use crate::record::CursorRecord;
 use crate::record::ModesRecord;
 use crate::record::ParserRecord;
@@ -12,11 +8,15 @@ use crate::record::SavedRecord;
 use crate::record::SetsRecord;
 use crate::record::Terminal;
 use cells::Rendition;
+use cells::words::set_of;
 use device::charsets::Sets;
+use device::charsets::register_of;
+use device::charsets::shift_of;
 use device::cursor::Cursor;
 use device::tabs::Tabs;
 use parser::params::Params;
 use parser::parser::Parser;
+use parser::phases::phase_of;
 use terminal::State;
 use vt::core::Core;
 use vt::core::Margins;

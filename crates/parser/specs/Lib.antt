@@ -3,3 +3,4 @@ pub mod Parser
 pub mod Families
 pub mod WholeParser
 pub mod Idle
+pub mod Phases

@@ -4,5 +4,6 @@ pub mod idle;
 pub mod numbers;
 pub mod params;
 pub mod parser;
+pub mod phases;
 pub mod rules;
 pub mod whole;

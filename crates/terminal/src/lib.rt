@@ -1,6 +1,7 @@
 // The terminal's calls: start, feed, ask for the changed rows, read a cell.
 use vt::core::Core;
 
+pub mod answers;
 pub mod calls;
 mod line;
 mod run;

@@ -11,6 +11,9 @@ cast-result c = search needs
 set-number-requires : tie.Need-set-number-requires
 set-number-requires c κs = search needs
 
+cast-result-2 : tie.Need-cast-result-2
+cast-result-2 c = search needs
+
 mul-result : tie.Need-mul-result
 mul-result c = search needs
 
@@ -45,6 +48,7 @@ pack-spec =
     (tie.spec
     cast-result
     set-number-requires
+    cast-result-2
     mul-result
     add-result
     rendition-bits-requires

@@ -17,11 +17,14 @@ flag-of-requires-3 c κs = search needs
 flag-of-requires-4 : tie.Need-flag-of-requires-4
 flag-of-requires-4 c κs = search needs
 
+cast-set-of : tie.Need-cast-set-of
+cast-set-of c = search needs
+
 set-of-requires : tie.Need-set-of-requires
 set-of-requires c κs = search needs
 
-cast-t13 : tie.Need-cast-t13
-cast-t13 c = search needs
+cast-t14 : tie.Need-cast-t14
+cast-t14 c = search needs
 
 flag-of-requires-5 : tie.Need-flag-of-requires-5
 flag-of-requires-5 c κs = search needs
@@ -50,7 +53,8 @@ unpack-spec =
     flag-of-requires-2
     flag-of-requires-3
     flag-of-requires-4
+    cast-set-of
     set-of-requires
-    cast-t13
+    cast-t14
     flag-of-requires-5
     returns)

@@ -1,7 +1,7 @@
 -- Each arm gives the shift of its number, and the last one that of any other.
 use borrow.Author.Tests.{ne-eqb}
-use Rattle.pankholim.proofs.numbers.shift_of.Statement.{statement}
-use Rattle.pankholim.proofs.numbers.shift_of.Tie as tie
+use Rattle.device.proofs.charsets.shift_of.Statement.{statement}
+use Rattle.device.proofs.charsets.shift_of.Tie as tie
 
 returns : tie.Need-returns
 returns c = simp (c .match .keys1)

@@ -1,7 +1,7 @@
 -- Each arm gives the phase of its number, and the last one that of any other.
 use borrow.Author.Tests.{ne-eqb}
-use Rattle.pankholim.proofs.numbers.phase_of.Statement.{statement}
-use Rattle.pankholim.proofs.numbers.phase_of.Tie as tie
+use Rattle.parser.proofs.phases.phase_of.Statement.{statement}
+use Rattle.parser.proofs.phases.phase_of.Tie as tie
 
 returns : tie.Need-returns
 returns c = simp (c .match .keys1)

@@ -1,0 +1,16 @@
+// Document 01's number of an answer.
+use crate::Answer;
+ghost use mathlib.Core.Path.{_≡_};
+ghost use Rattle.terminal.specs.Answers as answers;
+
+pub fn number(answer: Answer) -> u8
+    ensures { λ r. ⌜ r ≡ answers.number answer ⌝ }
+{
+    match answer {
+        Answer::Done => 0,
+        Answer::Broken => 1,
+        Answer::WrongSize => 2,
+        Answer::NoRoom => 3,
+        Answer::OffPage => 4,
+    }
+}
