@@ -1,6 +1,6 @@
 //! A plain reference program for the VT420 console reader.
 //!
-//! It is written from the specification ("document 01") alone, and is slow on
+//! It is written from the scope paper (see docs/SCOPE.md) alone, and is slow on
 //! purpose: during a call the page is rows of unpacked cells; every step makes
 //! a whole new page; the rows that a step changed are found by comparing the
 //! whole page before it with the whole page after it.

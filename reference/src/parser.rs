@@ -26,7 +26,7 @@ pub enum Parser {
     Given(Given),
 }
 
-/// A parser with every number that document 01's wholeness speaks of, in range
+/// A parser with every number that the scope's wholeness speaks of, in range
 /// or not.
 #[derive(Clone, Copy, PartialEq, Eq, Debug)]
 pub struct Given {

@@ -99,7 +99,7 @@ fn look(s: &mut Script) {
     s.text();
 }
 
-/// Document 01's examples, in each size of page.
+/// The examples of SCOPE 11, in each size of page.
 pub fn document_examples() -> Script {
     let fed: [&[u8]; 9] = [
         b"\x1B[5;77H1.10",
@@ -1387,7 +1387,7 @@ pub fn all_starts() -> Script {
 
 // ---- The text of every word -------------------------------------------------
 
-/// Is the word's text settled by document 01 beyond doubt? (1A in another set
+/// Is the word's text settled by the scope beyond doubt? (1A in another set
 /// than ASCII, Special Graphics 7F, and codes that nothing prints are not.)
 pub fn is_settled(word: u16) -> bool {
     let code = word & 0x7F;
@@ -1400,7 +1400,7 @@ pub fn is_settled(word: u16) -> bool {
 }
 
 /// The text of every word, settled or not; no part of the whole, for there the
-/// paper leaves room.
+/// scope leaves room.
 pub fn text_of_every_word() -> Script {
     let mut s = Script::new();
     s.start_right(24);

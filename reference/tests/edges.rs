@@ -1,4 +1,4 @@
-//! Cases at the edges, with expectations written by hand from document 01.
+//! Cases at the edges, with expectations written by hand from the scope paper.
 
 mod common;
 use common::Console;

@@ -1,4 +1,4 @@
-//! Document 01's eleven examples.
+//! The eleven examples of SCOPE 11.
 
 mod common;
 use common::Console;

@@ -1,4 +1,4 @@
--- Cell words (document 01, "The page and the state"): a cell is a code, a set and five flags, packed into 16 bits.
+-- Cell words (SCOPE 1.2 to 1.6): a cell is a code, a set and five flags, packed into 16 bits.
 -- Bits 0 to 6 are the code, 7 and 8 the set, 9 to 13 bold, underline, blink, reverse and protected. Bits 14 and 15 are unused.
 use mathlib.Core.Path.{_≡_}
 use mathlib.Core.Bool.{Bool, true, false, cond, _&&_, _||_}

@@ -12,7 +12,7 @@ pub fn least(a: usize, b: usize) -> usize
     if a < b { a } else { b }
 }
 
-// Document 01's number of an answer.
+// The number of an answer (SCOPE 2).
 pub fn number(answer: Answer) -> u8
     ensures { λ r. ⌜ r ≡ answers.number answer ⌝ }
 {

@@ -1,4 +1,4 @@
--- Control sequences (document 01, "Functions"), where they are not ignored: dispatch/specs/Heard.antt says what is. Wrap due is in WrapDue.antt
+-- Control sequences (SCOPE 5.23 to 5.46), where they are not ignored: dispatch/specs/Heard.antt says what is. Wrap due is in WrapDue.antt
 -- there. An intermediate or a mark that is not there is 0.
 use mathlib.Core.Bool.{Bool, true, false, cond, _||_}
 use mathlib.Core.List.{List, [], _∷_}

@@ -12,11 +12,9 @@ use vt::effects::quiet;
 use vt::fresh::fresh_saved;
 use vt::fresh::plain_rendition;
 ghost use mathlib.Core.Path.{_≡_};
-ghost use mathlib.Core.Bool.{Bool, true, cond, _||_};
-ghost use Prim.Native.Nat.{_≤_};
+ghost use mathlib.Core.Bool.{true, cond, _||_};
 ghost use lib.Dec.{eqb, ltb};
 ghost use Rattle.vt.specs.Bounds.{Bounds};
-ghost use Rattle.parser.specs.Params.{paramList};
 ghost use Rattle.csi.specs.Sequences as sequences;
 
 // TBC: 0 the tab here, 3 all.

@@ -74,7 +74,7 @@ pub record NextTooLong (f : Feed) (i o : List ℕ) : Type 0 where
   pub more : f .result .read < length i
   pub long : length o - f .result .replied < length (sends (f .result .state .core) (getD i (f .result .read) 0))
 
--- A feeding's answers are given exactly when document 01 says, 1 before 2; 0 where the buffer holds all that the input sends, 3 where it does
+-- A feeding's answers are given exactly when SCOPE 2 says, 1 before 2; 0 where the buffer holds all that the input sends, 3 where it does
 -- not. At 0 all input was read. At 3 the next byte's reply is longer than the room left.
 pub record FeedAnswers (s : State) (p i o : List ℕ) : Type 0 where
   pub done : fed s p i o .number ≡ 0 ↔ ((wholeState s ≡ true) × Sized s p × (length (sent (s .core) i) ≤ length o))
@@ -152,7 +152,7 @@ pub record AskAnswers (s : State) : Type 0 where
 abbrev pub AskExact : Type 0
 AskExact = (s : State) → AskAnswers s
 
--- Reading a cell answers 1 before 2 before 4, each exactly when document 01 says; refused, it returns a blank cell.
+-- Reading a cell answers 1 before 2 before 4, each exactly when SCOPE 2 says; refused, it returns a blank cell.
 pub record ReadAnswers (s : State) (p : List ℕ) (r c : ℕ) : Type 0 where
   pub broken : cellRead s p r c .number ≡ 1 ↔ (wholeState s ≡ false)
   pub wrong-size : cellRead s p r c .number ≡ 2 ↔ ((wholeState s ≡ true) × (Sized s p → ⊥))

@@ -1,10 +1,10 @@
--- The edges of a whole state (document 01, "Whole state"): for each clause states just inside and just outside. A state is a fresh one, of so
+-- The edges of a whole state (SCOPE 1.9 to 1.18): for each clause states just inside and just outside. A state is a fresh one, of so
 -- many rows, with the fields changed that are named.
 use mathlib.Core.Path.{_≡_}
 use mathlib.Core.Bool.{Bool, true, false, not, _&&_}
 use mathlib.Core.List.{List, [], _∷_, _++_}
 use Prim.Native.Nat.{ℕ, _-_, _^_}
-use lib.ListN.{set, replicate}
+use lib.ListN.{set}
 use Rattle.cells.specs.declared.Rendition.{Rendition}
 use Rattle.cells.specs.declared.CharSet.the-variants.{SpecialGraphics, Latin1}
 use Rattle.device.specs.declared.cursor.Cursor.{Cursor}
@@ -18,7 +18,6 @@ use Rattle.parser.specs.declared.parser.Parser.{Parser}
 use Rattle.vt.specs.declared.core.Margins.{Margins}
 use Rattle.vt.specs.declared.core.Modes.{Modes}
 use Rattle.vt.specs.declared.core.Saved.{Saved}
-use Rattle.vt.specs.declared.core.Core.{Core}
 use Rattle.terminal.specs.declared.State.{State}
 use Rattle.device.specs.Tabs.{noTabs}
 use Rattle.vt.specs.Fresh.{freshCore}

@@ -1,5 +1,5 @@
 -- The cursor's moves. Each gives row, column and wrap due together, and takes its stops as arguments.
-use mathlib.Core.Bool.{Bool, true, false, cond, _&&_, _||_}
+use mathlib.Core.Bool.{Bool, false, cond, _&&_, _||_}
 use Prim.Native.Nat.{ℕ, _+_, _-_, _*_, min, max}
 use lib.Dec.{eqb, ltb}
 use Rattle.device.specs.declared.cursor.Cursor.{Cursor}

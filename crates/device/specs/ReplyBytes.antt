@@ -1,4 +1,4 @@
--- The bytes of each reply (document 01, "Replies").
+-- The bytes of each reply (SCOPE 7).
 use mathlib.Core.Path.{_≡_}
 use mathlib.Core.Bool.{Bool, true, false}
 use mathlib.Core.List.{List, [], _∷_, _++_}

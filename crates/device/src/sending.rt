@@ -1,8 +1,7 @@
 // The replies, and their bytes, written into a lent buffer. Each writer takes the place to start at, and
 // returns the place after what it wrote.
 ghost use mathlib.Core.Path.{_≡_};
-ghost use mathlib.Core.Bool.{Bool};
-ghost use mathlib.Core.List.{List, [], _∷_, _++_};
+ghost use mathlib.Core.List.{[], _∷_, _++_};
 ghost use Prim.Native.Nat.{_+_, _≤_, _<_};
 ghost use lib.ListN.{length};
 ghost use Rattle.device.specs.declared.sending.Reply.the-variants.{Position, ExtendedPosition};

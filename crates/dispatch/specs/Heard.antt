@@ -1,4 +1,4 @@
--- What is heard (document 01, "Reading bytes", last item, and "Functions"): an action that is not listed, or that is ignored here and now,
+-- What is heard (SCOPE 3.16 and 5): an action that is not listed, or that is ignored here and now,
 -- is nothing. Functions, wrap due and replies are of what is heard.
 use mathlib.Core.Bool.{Bool, true, false, cond, not, _&&_, _||_}
 use mathlib.Core.List.{List, [], _∷_}

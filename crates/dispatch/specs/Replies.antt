@@ -1,4 +1,4 @@
--- Replies (document 01, the section of that name): which one an action draws, if it is heard.
+-- Replies (SCOPE 7): which one an action draws, if it is heard.
 use mathlib.Core.Bool.{cond, _&&_}
 use Prim.Native.Nat.{ℕ, _+_, _-_}
 use lib.Dec.{eqb}

@@ -1,4 +1,4 @@
--- Wrap due (document 01, "Functions", last item): the one policy, over what is heard. It is a list of what keeps wrap due; all others clear
+-- Wrap due (SCOPE 6): the one policy, over what is heard. It is a list of what keeps wrap due; all others clear
 -- it, even where they change nothing else. What is ignored or not listed, what only moves the parser, and CAN are nothing, and keep it.
 use mathlib.Core.Bool.{Bool, true, false, cond, not, _||_}
 use mathlib.Core.List.{List, [], _∷_}

@@ -6,7 +6,6 @@ use parser::params::Params;
 use parser::parser::Action;
 use vt::core::Core;
 ghost use mathlib.Core.Path.{_≡_};
-ghost use mathlib.Core.Bool.{Bool};
 ghost use Rattle.dispatch.specs.Heard as hearing;
 
 fn inside_margins(core: Core) -> bool

@@ -8,7 +8,7 @@ use parser::rules::between;
 use vt::core::Core;
 use vt::core::Decision;
 ghost use mathlib.Core.Path.{_≡_};
-ghost use mathlib.Core.Bool.{Bool, false, not, _&&_};
+ghost use mathlib.Core.Bool.{false, not, _&&_};
 ghost use Rattle.parser.specs.Params.{member};
 ghost use Rattle.dispatch.specs.Heard as hearing;
 ghost use Rattle.dispatch.specs.WrapDue as wrap;

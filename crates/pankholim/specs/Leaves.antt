@@ -11,7 +11,7 @@ use Rattle.terminal.specs.Start.{Start}
 use Rattle.terminal.specs.Feed.{Feed}
 use Rattle.terminal.specs.Ask.{Ask}
 use Rattle.terminal.specs.Read.{Read}
-use Rattle.text.specs.Text.{pageText, writtenNumber, written}
+use Rattle.text.specs.Text.{pageText, written}
 use Rattle.pankholim.specs.declared.record.Terminal.{Terminal}
 use Rattle.pankholim.specs.Record.{stateOf, recordOf}
 

@@ -1,18 +1,18 @@
 -- The cursor's moves keep it on the page, and with origin on between the margins.
-use mathlib.Core.Path.{_≡_, refl, sym}
-use mathlib.Core.Bool.{Bool, true, false, cond, _||_, false≢true}
+use mathlib.Core.Path.{_≡_, refl}
+use mathlib.Core.Bool.{Bool, true, false, cond, _||_}
 use Prim.Native.Nat.{ℕ, _+_, _-_, _≤_, _<_, min, max}
 use native.Mathlib.Omega.{arith}
 use lib.Dec.{eqb, leb, ltb}
-use borrow.Author.Tests.{eqb-true, eqb-false, leb-true, leb-false, ltb-true, ltb-false}
+use borrow.Author.Tests.{eqb-false, leb-true, leb-false, ltb-true, ltb-false}
 use Rattle.device.specs.declared.cursor.Cursor.{Cursor}
 use Rattle.vt.specs.declared.core.Core.{Core}
 use Rattle.device.specs.Tabs.{nextTab}
-use Rattle.device.specs.Cursor.{place, up, down, left, right, toColumn, tab, index, reverseIndex, advance, restore}
+use Rattle.device.specs.Cursor.{place, up, down, left, right, toColumn, tab, index, reverseIndex, advance}
 use Rattle.vt.specs.Effects.{withCursor}
 use Rattle.device.proofs.TabLaws.{next-low, next-high}
 use Rattle.parser.proofs.Tests.{either}
-use Rattle.sound.proofs.SoundParts.{OnPage, Scrolls, OriginHeld, Parts, WrapHeld, WrapOf, no-wrap}
+use Rattle.sound.proofs.SoundParts.{OnPage, OriginHeld, Parts, WrapHeld, no-wrap}
 
 -- a cursor that a core may have, but for wrap due
 pub record Fine (c : Core) (u : Cursor) : Type 0 where

@@ -7,27 +7,25 @@ use native.Mathlib.Omega.{arith}
 use lib.Dec.{eqb, leb, ltb}
 use borrow.Author.Tests.{leb-true, ltb-true, ltb-false, eqb-true, eqb-false, ne-eqb}
 use Rattle.cells.specs.declared.Edit.{Edit}
-use Rattle.cells.specs.declared.Edit.the-variants.{InsertCells, DeleteCells, ScrollUp, ScrollDown, Fill}
+use Rattle.cells.specs.declared.Edit.the-variants.{Fill}
 use Rattle.cells.specs.Cells.{blank}
 use Rattle.cells.specs.Edits.{Within, RowsFit, CellsFit, RunFits}
 use Rattle.parser.specs.declared.params.Params.{Params}
 use Rattle.vt.specs.declared.core.Core.{Core}
-use Rattle.vt.specs.declared.core.Decision.{Decision}
 use Rattle.parser.specs.Params.{param, paramN, paramList, member}
 use Rattle.device.specs.Tabs.{withoutTab, noTabs}
 use Rattle.device.specs.Cursor.{place, up, down, left, right, toColumn, offset}
-use Rattle.vt.specs.Escapes.{withOrigin}
 use Rattle.vt.specs.Fresh.{freshCore}
-use Rattle.csi.specs.Sequences.{cursorUp, cursorDown, cursorRight, cursorLeft, rowAt, cursorPosition, erased, toBlank, toSpace, inPage, inRow, rowStart, eraseCharacters, rowsBelow, cellsRight, insertLines, deleteLines, insertCharacters, deleteCharacters, folded, clearTabs, ansiMode, originMode, decMode, ansiModes, decModes, withInsert, withNewline, withAutowrap, withShown, rendered, selectRendition, selectProtection, askedMargins, marginsTaken, setMargins, softReset, plainSequence, markedSequence, sequenced}
+use Rattle.csi.specs.Sequences.{cursorUp, cursorDown, cursorRight, cursorLeft, rowAt, cursorPosition, erased, toBlank, toSpace, inPage, inRow, rowStart, eraseCharacters, rowsBelow, cellsRight, folded, clearTabs, ansiMode, originMode, decMode, ansiModes, decModes, rendered, selectProtection, askedMargins, marginsTaken, setMargins, softReset, plainSequence, markedSequence, sequenced}
 use Rattle.parser.specs.Families.{isPlain, isMarked, isProtection, isSoftReset}
 use Rattle.dispatch.specs.Heard.{insideMargins, isSecondary, plainIgnored, markedIgnored, ignoredSequence}
 use Rattle.dispatch.specs.WrapDue.{keepingFinals, markedKeeps, sequenceKeeps}
-use Rattle.vt.specs.Effects.{withCursor, withMargins, withModes, withRendition, withProtected, only, quiet}
+use Rattle.vt.specs.Effects.{withCursor, withMargins, withRendition, withProtected, only, quiet}
 use Rattle.parser.proofs.Tests.{either, and-left, and-right, at-number, or-left, or-right}
 use Rattle.dispatch.proofs.HeardLaws.{not-false}
 use Rattle.dispatch.proofs.WrapLaws.{reset-clears}
-use Rattle.sound.proofs.SoundParts.{OnPage, Scrolls, OriginHeld, Held, Parts, WrapHeld, WrapOf, Good, good-only, good-quiet, no-wrap}
-use Rattle.sound.proofs.SoundMoves.{Fine, own, with-cursor, fine-start, fine-up, fine-down, fine-left, fine-right}
+use Rattle.sound.proofs.SoundParts.{OnPage, Scrolls, OriginHeld, Parts, WrapOf, Good, good-only, good-quiet, no-wrap}
+use Rattle.sound.proofs.SoundMoves.{own, fine-start, fine-up, fine-down, fine-left, fine-right}
 use Rattle.sound.proofs.SoundControls.{good-moved, good-tabs, good-same}
 use Rattle.sound.proofs.SoundEscapes.{home-on, full, origin-off, saved-home}
 

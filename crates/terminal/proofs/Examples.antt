@@ -1,4 +1,4 @@
--- Document 01's examples 1 to 10, and some of our own, hold of the definitions (specs/Examples.antt).
+-- SCOPE 11.1 to 11.10, and some examples of our own, hold of the definitions (specs/Examples.antt).
 use mathlib.Core.Path.{_≡_, refl}
 use mathlib.Core.Bool.{true}
 use Rattle.vt.specs.Fresh.{freshCore}

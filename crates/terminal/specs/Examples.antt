@@ -134,7 +134,7 @@ unfoldable pub holds : List Line → Bool
 unfolding packed unpacked spaced selectivelyErased joined bitsOf added sizeOf applied withDigit withSeparator transition decode withTab withoutTab nextAmong freshCore wholeCore put printed substituted controlled c1Controlled escaped rendered softReset sequenced clearsWrap replyTo digitsIn decimal replyBytes executed decided sends stepped ran sent readable wholeState fed asked
 holds ls = goes begun ls
 
--- ---- document 01's examples: fresh, R = 24
+-- ---- SCOPE 11.1 to 11.10: fresh, R = 24
 
 -- 1. The right edge with autowrap off.
 abbrev pub p1 : List Line

@@ -1,4 +1,4 @@
--- A whole state (document 01, "Whole state"), and a page of its size.
+-- A whole state (SCOPE 1.9 to 1.18), and a page of its size.
 use mathlib.Core.Bool.{Bool, _&&_}
 use mathlib.Core.List.{List}
 use Prim.Native.Nat.{ℕ, _*_, _^_, _<_}

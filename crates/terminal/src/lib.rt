@@ -13,7 +13,7 @@ pub struct State {
     pub changed: u64,
 }
 
-// What a call answers. Document 01's numbers are in specs/Answers.antt.
+// What a call answers. The numbers are in specs/Answers.antt (SCOPE 2).
 pub enum Answer {
     Done,
     // The state is not whole, or, at a start, there is no page of so many rows.

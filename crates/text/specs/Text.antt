@@ -1,5 +1,5 @@
--- The page as text (document 01, the section of that name): a line for each row, trailing U+0020 off, each closed by 0A, in UTF-8.
-use mathlib.Core.Bool.{Bool, true, false, cond, _||_}
+-- The page as text (SCOPE 10): a line for each row, trailing U+0020 off, each closed by 0A, in UTF-8.
+use mathlib.Core.Bool.{cond, _||_}
 use mathlib.Core.List.{List, [], _∷_, _++_, map}
 use Prim.Native.Nat.{ℕ, _+_, _-_, _/_, _%_}
 use lib.Dec.{eqb, leb, ltb}
@@ -7,7 +7,6 @@ use lib.ListN.{length, getD}
 use lib.Seq.{sets}
 use Rattle.cells.specs.declared.CharSet.{CharSet}
 use Rattle.cells.specs.declared.CharSet.the-variants.{Ascii, SpecialGraphics, Supplemental, Latin1}
-use Rattle.cells.specs.declared.Cell.{Cell}
 use Rattle.cells.specs.Cells.{unpacked}
 use Rattle.cells.specs.Rows.{rowsOf}
 use Rattle.text.specs.declared.Written.{Written}
@@ -92,7 +91,7 @@ pageText p = textOf (length p / 80) p
 
 -- ---- writing it into a buffer
 
--- document 01's numbers
+-- the scope's numbers
 abbrev pub writtenNumber : Written → ℕ
 writtenNumber (Whole n) = 0
 writtenNumber NoRoom = 3

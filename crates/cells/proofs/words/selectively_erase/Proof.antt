@@ -8,9 +8,6 @@ use borrow.Author.Needs.{needs}
 use Rattle.cells.proofs.words.selectively_erase.Statement.{statement}
 use Rattle.cells.proofs.words.selectively_erase.Tie as tie
 
-space-requires : tie.Need-space-requires
-space-requires c κs = search needs
-
 returns : tie.Need-returns
 unfolding selectivelyErased unpacked
 returns c = let protected : flag (c .before .args .word / 8192) ≡ true = eq-eqb _ _ (c .if1 .taken) in rw protected
@@ -20,4 +17,4 @@ unfolding selectivelyErased unpacked
 returns-2 c = let other : flag (c .before .before .args .word / 8192) ≡ false = ne-eqb _ _ (c .before .if1 .left) in rw other (c .space .ensures)
 
 pub selectively-erase-spec : {M : Type 1} → statement M
-selectively-erase-spec = tie.close (tie.spec space-requires returns returns-2)
+selectively-erase-spec = tie.close (tie.spec (λ c κs. search needs) returns returns-2)

@@ -6,32 +6,17 @@ use Rattle.device.proofs.DecimalLaws.{decimal-small, decimal-two}
 use Rattle.device.proofs.sending.send_small_number.Statement.{statement}
 use Rattle.device.proofs.sending.send_small_number.Tie as tie
 
-add-send-byte : tie.Need-add-send-byte
-add-send-byte c = search needs
-
 send-byte-requires : tie.Need-send-byte-requires
 send-byte-requires c κs = rw (decimal-small _ (c .before .if1 .taken)) at (c .before .before .before .pre .1)
-
-same-length : tie.Need-same-length
-same-length c = search needs
 
 returns : tie.Need-returns
 returns c = rw (decimal-small _ (c .before .before .before .before .if1 .taken)) (c .before .before .send-byte .ensures)
 
-add-send-byte-2 : tie.Need-add-send-byte-2
-add-send-byte-2 c = search needs
-
 send-byte-requires-2 : tie.Need-send-byte-requires-2
 send-byte-requires-2 c κs = let h = rw (decimal-two _ (c .before .if1 .left) (c .before .before .before .pre .0)) at (c .before .before .before .pre .1) in omega arith
 
-add-send-byte-3 : tie.Need-add-send-byte-3
-add-send-byte-3 c = search needs
-
 send-byte-requires-3 : tie.Need-send-byte-requires-3
 send-byte-requires-3 c κs = let h = rw (decimal-two _ (c .before .before .before .before .before .if1 .left) (c .before .before .before .before .before .before .before .pre .0)) at (c .before .before .before .before .before .before .before .pre .1) in omega (arith, c .before .before .before .send-byte2 .ensures)
-
-same-length-2 : tie.Need-same-length-2
-same-length-2 c = search needs
 
 returns-2 : tie.Need-returns-2
 returns-2 c = rw (decimal-two _ (c .before .before .before .before .before .before .before .before .if1 .left) (c .before .before .before .before .before .before .before .before .before .before .pre .0)) (wrote-more (c .before .before .before .before .before .before .send-byte2 .ensures) (c .before .before .send-byte3 .ensures))
@@ -39,14 +24,5 @@ returns-2 c = rw (decimal-two _ (c .before .before .before .before .before .befo
 pub send-small-number-spec : {M : Type 1} → statement M
 send-small-number-spec =
     tie.close
-    (tie.spec
-    add-send-byte
-    send-byte-requires
-    same-length
-    returns
-    add-send-byte-2
-    send-byte-requires-2
-    add-send-byte-3
-    send-byte-requires-3
-    same-length-2
-    returns-2)
+    (tie.spec (λ c. search needs) send-byte-requires (λ c. search needs) returns (λ c. search needs) send-byte-requires-2 (λ c. search needs)
+    send-byte-requires-3 (λ c. search needs) returns-2)

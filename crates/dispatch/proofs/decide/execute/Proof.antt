@@ -31,4 +31,6 @@ returns-2 c =
     (c .before .effect .ensures ∙ heard-effect (args .core) (args .action) (sym (left .before .is-ignored .ensures) ∙ left .if1 .left))
 
 pub execute-spec : {M : Type 1} → statement M
-execute-spec = tie.close (tie.spec (λ c κs. search needs) (λ c κs. search needs) returns clears-wrap-requires effect-requires (λ c κs. search needs) returns-2)
+execute-spec =
+    tie.close
+    (tie.spec (λ c κs. search needs) (λ c κs. search needs) returns clears-wrap-requires effect-requires (λ c κs. search needs) returns-2)

@@ -10,4 +10,6 @@ returns-2 : tie.Need-returns-2
 returns-2 c = rw (← c .before .before .before .is-plain .ensures, c .before .before .if1 .left, c .before .is-marked .ensures, c .marked-ignored .ensures)
 
 pub ignored-sequence-spec : {M : Type 1} → statement M
-ignored-sequence-spec = tie.close (tie.spec (λ c κs. search needs) (λ c κs. search needs) returns (λ c κs. search needs) (λ c κs. search needs) returns-2)
+ignored-sequence-spec =
+    tie.close
+    (tie.spec (λ c κs. search needs) (λ c κs. search needs) returns (λ c κs. search needs) (λ c κs. search needs) returns-2)

@@ -8,9 +8,6 @@ use Rattle.dispatch.specs.WrapDue.{settled}
 use Rattle.dispatch.proofs.wrap.settle.Statement.{statement}
 use Rattle.dispatch.proofs.wrap.settle.Tie as tie
 
-no-wrap-requires : tie.Need-no-wrap-requires
-no-wrap-requires c κs = search needs
-
 returns : tie.Need-returns
 returns c =
     let taken = c .before .before .before in
@@ -22,4 +19,4 @@ returns-2 : tie.Need-returns-2
 returns-2 c = ap (λ (t : Bool). settled t (c .before .args .decision)) (sym (c .if1 .left))
 
 pub settle-spec : {M : Type 1} → statement M
-settle-spec = tie.close (tie.spec no-wrap-requires returns returns-2)
+settle-spec = tie.close (tie.spec (λ c κs. search needs) returns returns-2)

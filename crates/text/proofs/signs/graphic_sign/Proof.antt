@@ -6,15 +6,6 @@ use borrow.Author.Tests.{lt-ltb, le-ltb, eq-eqb, ne-eqb}
 use Rattle.text.proofs.signs.graphic_sign.Statement.{statement}
 use Rattle.text.proofs.signs.graphic_sign.Tie as tie
 
-cast-line-drawing-sign : tie.Need-cast-line-drawing-sign
-cast-line-drawing-sign c = search needs
-
-line-drawing-sign-requires : tie.Need-line-drawing-sign-requires
-line-drawing-sign-requires c κs = search needs
-
-shown-code-requires : tie.Need-shown-code-requires
-shown-code-requires c κs = search needs
-
 returns : tie.Need-returns
 returns c =
     let code = c .before .before .before .args .code in
@@ -31,11 +22,4 @@ returns-2 c =
     (c .before .if1 .came)
 
 pub graphic-sign-spec : {M : Type 1} → statement M
-graphic-sign-spec =
-    tie.close
-    (tie.spec
-    cast-line-drawing-sign
-    line-drawing-sign-requires
-    shown-code-requires
-    returns
-    returns-2)
+graphic-sign-spec = tie.close (tie.spec (λ c. search needs) (λ c κs. search needs) (λ c κs. search needs) returns returns-2)
