@@ -26,7 +26,7 @@ pub const FILES: [(&str, &str); 23] = [
     ),
     (
         "document",
-        include_str!("../../tests/examples/document.test"),
+        include_str!("../../tests/examples/scope.test"),
     ),
     ("erasing", include_str!("../../tests/examples/erasing.test")),
     (
