@@ -9,73 +9,38 @@ use crate::words::answer_in_words;
 const ROWS_AT_FIRST: u16 = 24;
 const ROOM: u16 = 64;
 
-/// Every file in the directory of examples, without its ending.
-pub const FILES: [(&str, &str); 23] = [
-    ("calls", include_str!("../../tests/examples/calls.test")),
-    (
-        "changed-rows",
-        include_str!("../../tests/examples/changed-rows.test"),
-    ),
-    (
-        "controls",
-        include_str!("../../tests/examples/controls.test"),
-    ),
-    (
-        "cursor-shown",
-        include_str!("../../tests/examples/cursor-shown.test"),
-    ),
-    (
-        "document",
-        include_str!("../../tests/examples/scope.test"),
-    ),
-    ("erasing", include_str!("../../tests/examples/erasing.test")),
-    (
-        "inserting",
-        include_str!("../../tests/examples/inserting.test"),
-    ),
-    ("margins", include_str!("../../tests/examples/margins.test")),
-    ("origin", include_str!("../../tests/examples/origin.test")),
-    (
-        "parameters",
-        include_str!("../../tests/examples/parameters.test"),
-    ),
-    (
-        "rendition",
-        include_str!("../../tests/examples/rendition.test"),
-    ),
-    ("replies", include_str!("../../tests/examples/replies.test")),
-    ("resets", include_str!("../../tests/examples/resets.test")),
-    (
-        "right-edge",
-        include_str!("../../tests/examples/right-edge.test"),
-    ),
-    (
-        "saved-cursor",
-        include_str!("../../tests/examples/saved-cursor.test"),
-    ),
-    (
-        "scrolling",
-        include_str!("../../tests/examples/scrolling.test"),
-    ),
-    (
-        "sequences",
-        include_str!("../../tests/examples/sequences.test"),
-    ),
-    ("sets", include_str!("../../tests/examples/sets.test")),
-    (
-        "starting",
-        include_str!("../../tests/examples/starting.test"),
-    ),
-    ("strings", include_str!("../../tests/examples/strings.test")),
-    (
-        "substitute",
-        include_str!("../../tests/examples/substitute.test"),
-    ),
-    ("tabs", include_str!("../../tests/examples/tabs.test")),
-    (
-        "wrap-due",
-        include_str!("../../tests/examples/wrap-due.test"),
-    ),
+macro_rules! files {
+    ($($name:literal),* $(,)?) => {
+        [$(($name, include_str!(concat!("../../tests/examples/", $name, ".test")))),*]
+    };
+}
+
+/// Every file in the directory of examples: its name without the ending, and
+/// its text.
+pub const FILES: [(&str, &str); 23] = files![
+    "calls",
+    "changed-rows",
+    "controls",
+    "cursor-shown",
+    "erasing",
+    "inserting",
+    "margins",
+    "origin",
+    "parameters",
+    "rendition",
+    "replies",
+    "resets",
+    "right-edge",
+    "saved-cursor",
+    "scope",
+    "scrolling",
+    "sequences",
+    "sets",
+    "starting",
+    "strings",
+    "substitute",
+    "tabs",
+    "wrap-due",
 ];
 
 /// A command, and what it must write; none is any byte.
