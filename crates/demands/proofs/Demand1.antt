@@ -1,4 +1,4 @@
--- S2, S3, S4 and S8: states stay whole, replies are short, any bytes are taken without harm, and what an edit changes.
+-- Demand 1 and what it stands on: states stay whole, replies are short, any bytes are taken without harm, and what an edit changes.
 use mathlib.Core.Path.{_≡_, refl, sym, ap, _∙_, subst}
 use mathlib.Core.Bool.{Bool, true, false, cond, false≢true}
 use mathlib.Core.List.{List, [], _∷_}
@@ -35,7 +35,7 @@ use Rattle.terminal.proofs.StepLaws.{Sane, sane-step, sane-ran, ran-core, sent-
 use Rattle.terminal.proofs.CallLaws.{state-facts, state-tested, sane-screen, fed-broken, fed-size, fed-run, fed-cases, Taken, fed-taken, fed-left, asked-done, asked-broken, asked-whole, started-as, read-as}
 use Rattle.demands.specs.Statements.{Sized, stateOf, FreshWhole, StepWhole, StartWhole, FeedWhole, AskWhole, RepliesShort, NextTooLong, FeedAnswers, FeedExact, FeedRefused, FeedDoes, RestKept, ReplyKept, Progress, StartAnswers, StartExact, AskAnswers, AskExact, ReadAnswers, ReadExact, EveryEdit}
 
--- ---- S2
+-- ---- states stay whole
 
 fresh-rows : (r : ℕ) → fresh r .core .rows ≡ r
 unfolding freshCore
@@ -74,12 +74,12 @@ ask-returns-whole s h =
     let w : WholeState s = state-facts s e in
     rw (asked-done s e) (state-tested (record { core = s .core; changed = 0 }) (record { core = w .core; changed = pow-pos (s .core .rows) }))
 
--- ---- S3
+-- ---- replies are short
 
 pub replies-are-short : RepliesShort
 replies-are-short c b e = sends-short c (facts c e) b
 
--- ---- S4: feeding
+-- ---- demand 1: feeding
 
 -- both sides hold, or neither does
 both : {A B : Type 0} → A → B → A ↔ B
@@ -228,7 +228,7 @@ reads-one room c (b ∷ bs) w l h =
 pub progress : Progress
 progress s p i o e h l room = rw (fed-run s p i o e h) (reads-one (length o) (s .core) i (state-facts s e .core) l room)
 
--- ---- S4: starting, asking, reading
+-- ---- demand 1: starting, asking, reading
 
 pub start-is-exact : StartExact
 start-is-exact r p = go (sized r) refl (eqb (length p) (80 * r)) refl
@@ -348,7 +348,7 @@ read-is-exact s p r c = go (wholeState s) refl (eqb (length p) (80 * s .core .ro
           word = λ x. absurd (false≢true (sym x ∙ ap (λ (y : Read). refusal (y .result .answer)) q));
         }
 
--- ---- S8
+-- ---- edits
 
 pub edits-are-faithful : EveryEdit
 edits-are-faithful n e p h w =

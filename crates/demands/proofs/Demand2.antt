@@ -1,4 +1,4 @@
--- S5, demand 2: feeding in several calls, each done, equals feeding at once. It is the law of a run over appended input.
+-- Demand 2: feeding in several calls, each done, equals feeding at once. It is the law of a run over appended input.
 use mathlib.Core.Path.{_≡_, refl, sym, ap, ap₂, _∙_, subst}
 use mathlib.Core.List.{List, [], _∷_, _++_}
 use Prim.Native.Nat.{ℕ, _+_, _≤_}

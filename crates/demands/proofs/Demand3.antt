@@ -1,4 +1,4 @@
--- S6, demand 3: every proper list of calls leaves the model's page and shows what the model shows. One relation between the world and the
+-- Demand 3: every proper list of calls leaves the model's page and shows what the model shows. One relation between the world and the
 -- model, one lemma for each kind of call, one induction.
 use mathlib.Core.Path.{_≡_, refl, sym, ap, ap₂, _∙_, subst}
 use mathlib.Core.Bool.{Bool, true, false, cond, _||_, _&&_, or-false, or-assoc, and-false, and-true}

@@ -37,7 +37,7 @@ stateOf d = record { core = d .core; changed = d .changed }
 abbrev pub sentBy : Feed → List ℕ
 sentBy f = take (f .result .replied) (f .reply)
 
--- ==== S2. States stay whole.
+-- ==== States stay whole.
 
 -- The fresh state of each of the three sizes is whole.
 abbrev pub FreshWhole : Type 0
@@ -62,12 +62,12 @@ FeedWhole = (s : State) (p i o : List ℕ) → refusal (fed s p i o .result .ans
 abbrev pub AskWhole : Type 0
 AskWhole = (s : State) → refusal (asked s .result .answer) ≡ false → wholeState (asked s .result .state) ≡ true
 
--- ==== S3. Where the core is whole, no byte sends more than 11 bytes.
+-- ==== Where the core is whole, no byte sends more than 11 bytes.
 
 abbrev pub RepliesShort : Type 0
 RepliesShort = (c : Core) (b : ℕ) → wholeCore c ≡ true → length (sends c b) ≤ 11
 
--- ==== S4, demand 1. Any bytes are taken without harm.
+-- ==== Demand 1. Any bytes are taken without harm.
 
 -- The next byte's reply is longer than the room left.
 pub record NextTooLong (f : Feed) (i o : List ℕ) : Type 0 where
@@ -164,7 +164,7 @@ pub record ReadAnswers (s : State) (p : List ℕ) (r c : ℕ) : Type 0 where
 abbrev pub ReadExact : Type 0
 ReadExact = (s : State) (p : List ℕ) (r c : ℕ) → ReadAnswers s p r c
 
--- ==== S5, demand 2. Feeding the same bytes in several calls changes nothing, if each call's replies fit.
+-- ==== Demand 2. Feeding the same bytes in several calls changes nothing, if each call's replies fit.
 
 -- A part of the input, and the reply buffer that its call is lent.
 pub record Part : Type 0 where
@@ -207,7 +207,7 @@ abbrev pub Demand2 : Type 0
 Demand2 = (s : State) (p : List ℕ) (xs : List Part) (o : List ℕ) → wholeState s ≡ true → Sized s p → AllDone s p xs
     → length (several s p xs .sent) ≤ length o → SameAtOnce (several s p xs) (fed s p (inputOf xs) o)
 
--- ==== S8. Every edit keeps the page's length and each cell outside its target, and the rows that it changes are exactly those where a
+-- ==== Every edit keeps the page's length and each cell outside its target, and the rows that it changes are exactly those where a
 -- cell's word differs.
 
 pub record Edited (n : ℕ) (e : Edit) (p q : List ℕ) : Type 0 where
@@ -219,7 +219,7 @@ pub record Edited (n : ℕ) (e : Edit) (p q : List ℕ) : Type 0 where
 abbrev pub EveryEdit : Type 0
 EveryEdit = (n : ℕ) (e : Edit) (p : List ℕ) → length p ≡ 80 * n → Within n e → Edited n e p (applied n e p)
 
--- ==== S6, demand 3. A page of R rows was started. For every list of calls of which each unrefused one was given the newest state and her
+-- ==== Demand 3. A page of R rows was started. For every list of calls of which each unrefused one was given the newest state and her
 -- page, and a refused one anything, also a part of her page: her page and the newest core are the model's, and what is seen of the calls is what
 -- the model shows: answers, counts and bytes sent of feedings, the rows reported, their number and the reader's copy at each asking, the words
 -- read.
