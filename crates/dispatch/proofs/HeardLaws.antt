@@ -18,7 +18,7 @@ use Rattle.parser.specs.Families.{isPlain, isMarked, isProtection, isSoftReset}
 use Rattle.csi.specs.Sequences.{marginsTaken, selectProtection, softReset, plainSequence, markedSequence, sequenced}
 use Rattle.parser.proofs.Tests.{or-left, or-right, at-number}
 use Rattle.dispatch.specs.Heard.{controls, c1Controls, plainEscapes, names94, listedEscape, plainFinals, markedFinals, isSecondary, listedSequence}
-use Rattle.dispatch.specs.Heard.{isListed, plainIgnored, markedIgnored, ignoredSequence, isIgnored, isHeard, heard}
+use Rattle.dispatch.specs.Heard.{isListed, plainIgnored, markedIgnored, ignoredSequence, isIgnored, unlessIgnored, isHeard, heard}
 use Rattle.dispatch.specs.WrapDue.{keepsWrap, clearsWrap, settled}
 use Rattle.dispatch.specs.Replies.{plainReply, markedReply, reply, replyTo}
 use Rattle.dispatch.specs.Decide.{effect, executed}
@@ -145,6 +145,22 @@ ignored-quiet c a e = rw e (go (isListed a))
     go : (t : Bool) → let x = cond (t && false) a Nothing in quiet c ≡ settled (not (keepsWrap (c .parser .params) x)) (effect c x)
     go true = refl
     go false = refl
+
+-- so an action may be taken for nothing first, and then it is not ignored
+pub unignored : (c : Core) (a : Action) → isIgnored c (unlessIgnored c a) ≡ false
+unignored c a = go (isIgnored c a) refl
+  where
+    go : (t : Bool) → isIgnored c a ≡ t → isIgnored c (cond t Nothing a) ≡ false
+    go true e = refl
+    go false e = e
+
+pub executed-unignored : (c : Core) (a : Action) → executed c (unlessIgnored c a) ≡ executed c a
+unfolding executed clearsWrap
+executed-unignored c a = go (isIgnored c a) refl
+  where
+    go : (t : Bool) → isIgnored c a ≡ t → executed c (cond t Nothing a) ≡ executed c a
+    go true e = ignored-quiet c a e
+    go false e = refl
 
 -- r that is not ignored has margins that are taken
 pub heard-taken : (c : Core) (a : Action) (mark first second last : ℕ) → isIgnored c a ≡ false → a ≡ ControlSequence mark first second last

@@ -105,6 +105,9 @@ isIgnored c (C1Control b) = false
 isIgnored c (EscapeSequence first second last) = false
 isIgnored c (ControlSequence mark first second last) = ignoredSequence c (c .parser .params) mark first second last
 
+abbrev pub unlessIgnored : Core → Action → Action
+unlessIgnored c a = cond (isIgnored c a) Nothing a
+
 -- ---- what is heard
 
 abbrev pub isHeard : Core → Action → Bool

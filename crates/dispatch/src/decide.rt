@@ -1,5 +1,5 @@
 // An action: the next core, and at most two edits.
-use crate::heard::is_ignored;
+use crate::heard::unless_ignored;
 use crate::wrap::clears_wrap;
 use crate::wrap::settle;
 use csi::sequences::sequence;
@@ -51,9 +51,7 @@ pub fn execute(core: Core, action: Action) -> Decision
     requires { ⌜ Bounds core ⌝ }
     ensures { λ r. ⌜ r ≡ decisions.executed core action ⌝ }
 {
-    if is_ignored(core, action) {
-        return quiet(core);
-    }
+    let action = unless_ignored(core, action);
     let clears = clears_wrap(core, action);
     settle(clears, effect(core, action))
 }

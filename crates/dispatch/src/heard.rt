@@ -47,7 +47,7 @@ fn ignored_sequence(core: Core, params: Params, mark: u8, first: u8, second: u8,
     is_marked(mark, first, second) & marked_ignored(params, last)
 }
 
-pub fn is_ignored(core: Core, action: Action) -> bool
+fn is_ignored(core: Core, action: Action) -> bool
     ensures { λ r. ⌜ r ≡ hearing.isIgnored core action ⌝ }
 {
     match action {
@@ -62,4 +62,13 @@ pub fn is_ignored(core: Core, action: Action) -> bool
         }
         _ => false,
     }
+}
+
+pub fn unless_ignored(core: Core, action: Action) -> Action
+    ensures { λ r. ⌜ r ≡ hearing.unlessIgnored core action ⌝ }
+{
+    if is_ignored(core, action) {
+        return Action::Nothing;
+    }
+    action
 }

@@ -13,7 +13,8 @@ use Rattle.parser.proofs.Tests.{either}
 use Rattle.device.proofs.SendLaws.{TwoDigits, reply-short}
 use Rattle.vt.specs.declared.core.Core.{Core}
 use Rattle.vt.specs.Whole.{Whole}
-use Rattle.dispatch.specs.Replies.{reportedRow, isSecondary, replyTo}
+use Rattle.dispatch.specs.Heard.{isSecondary, heard}
+use Rattle.dispatch.specs.Replies.{reportedRow, reply, replyTo}
 use Rattle.dispatch.specs.Decide.{sends}
 
 module _ (c : Core) (w : Whole c) where
@@ -23,8 +24,7 @@ module _ (c : Core) (w : Whole c) where
   column-small : c .cursor .column < 100
   column-small = omega arith
 
-  two-digits : (a : Action) → TwoDigits (replyTo c a)
-  unfolding replyTo
+  two-digits : (a : Action) → TwoDigits (reply c a)
   two-digits Nothing = tt
   two-digits (Character b) = tt
   two-digits Substitute = tt
@@ -40,8 +40,10 @@ module _ (c : Core) (w : Whole c) where
       (λ e. either TwoDigits (isMarked mark first second)
       (λ e. either TwoDigits (eqb last 0x6E && eqb (param q 0) 6) (λ e. (row-small, column-small))
       (λ e. either TwoDigits (eqb last 0x6E && eqb (param q 0) 15) (λ e. tt) (λ e. tt)))
-      (λ e. either TwoDigits (isSecondary q mark first second last) (λ e. tt) (λ e. tt)))
+      (λ e. either TwoDigits (isSecondary mark first second last && eqb (param q 0) 0) (λ e. tt) (λ e. tt)))
 
   pub sends-short : (b : ℕ) → length (sends c b) ≤ 11
-  unfolding sends
-  sends-short b = reply-short (c .modes .eightbit) (replyTo c (decode (c .parser) b .action)) (two-digits (decode (c .parser) b .action))
+  unfolding sends replyTo
+  sends-short b =
+      let a = decode (c .parser) b .action in
+      reply-short (c .modes .eightbit) (replyTo c a) (two-digits (heard c a))
