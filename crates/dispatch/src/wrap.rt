@@ -34,13 +34,26 @@ fn escape_clears(first: u8, second: u8, last: u8) -> bool
     ((first == 0x23) & ((second == 0) & (last == 0x38))) | ((first == 0) & (last == 0x63))
 }
 
-// ICH, CUU, CUD, CUF, CUB, CUP, ED, EL, IL, DL, DCH, ECH, HVP, DECSTBM.
 fn plain_clears(last: u8) -> bool
     ensures { λ r. ⌜ r ≡ member last hearing.plainFinals && not (member last wrap.keepingFinals) ⌝ }
 {
-    let cells = between(0x40, last, 0x44) | (last == 0x48);
-    let rows = between(0x4A, last, 0x4D) | (last == 0x50);
-    (cells | rows) | (((last == 0x58) | (last == 0x66)) | (last == 0x72))
+    match last {
+        0x40 => true, // ICH
+        0x41 => true, // CUU
+        0x42 => true, // CUD
+        0x43 => true, // CUF
+        0x44 => true, // CUB
+        0x48 => true, // CUP
+        0x4A => true, // ED
+        0x4B => true, // EL
+        0x4C => true, // IL
+        0x4D => true, // DL
+        0x50 => true, // DCH
+        0x58 => true, // ECH
+        0x66 => true, // HVP
+        0x72 => true, // DECSTBM
+        _ => false,
+    }
 }
 
 // DECSED, DECSEL; ?6 set or reset; ?7 reset.

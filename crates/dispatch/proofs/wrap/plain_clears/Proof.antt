@@ -1,22 +1,29 @@
--- At each byte the ranges are the definition's, by a computed comparison.
-use mathlib.Core.Path.{refl}
-use mathlib.Core.Bool.{not, _&&_, _||_}
+-- At each final the answer is the definition's: the listed ones compute, the others by a computed comparison over all bytes.
+use mathlib.Core.Path.{refl, sym, _∙_}
+use mathlib.Core.Bool.{not, _&&_}
+use mathlib.Core.List.{[], _∷_}
 use borrow.Author.Needs.{needs}
+use borrow.Author.Tests.{ne-eqb}
 use Prim.Native.Nat.{ℕ}
-use lib.Dec.{eqb}
 use Rattle.parser.specs.Params.{member}
-use Rattle.parser.specs.Parser.{between}
 use Rattle.dispatch.specs.Heard.{plainFinals}
 use Rattle.dispatch.specs.WrapDue.{keepingFinals}
 use Rattle.dispatch.proofs.WrapLaws.{alike-at}
 use Rattle.dispatch.proofs.wrap.plain_clears.Statement.{statement}
 use Rattle.dispatch.proofs.wrap.plain_clears.Tie as tie
 
-returns : tie.Need-returns
-returns c =
-    rw (c .before .between .ensures, c .between2 .ensures)
-    (alike-at (λ (b : ℕ). ((between 0x40 b 0x44 || eqb b 0x48) || (between 0x4A b 0x4D || eqb b 0x50)) || ((eqb b 0x58 || eqb b 0x66) || eqb b 0x72))
-    (λ (b : ℕ). member b plainFinals && not (member b keepingFinals)) 256 refl (c .before .before .args .last) (search needs))
+returns-15 : tie.Need-returns-15
+returns-15 c =
+    let b = c .before .args .last in
+    let r = c .match .rest in
+    sym
+    (alike-at (λ (x : ℕ). member x plainFinals && not (member x keepingFinals))
+    (λ (x : ℕ). member x (0x40 ∷ 0x41 ∷ 0x42 ∷ 0x43 ∷ 0x44 ∷ 0x48 ∷ 0x4A ∷ 0x4B ∷ 0x4C ∷ 0x4D ∷ 0x50 ∷ 0x58 ∷ 0x66 ∷ 0x72 ∷ []))
+    256 refl b (search needs)
+    ∙ rw (ne-eqb b 0x40 (r .0 .0 .0 .0 .0 .0 .0 .0 .0 .0 .0 .0 .0 .1), ne-eqb b 0x41 (r .0 .0 .0 .0 .0 .0 .0 .0 .0 .0 .0 .0 .1), ne-eqb b 0x42 (r .0 .0 .0 .0 .0 .0 .0 .0 .0 .0 .0 .1), ne-eqb b 0x43 (r .0 .0 .0 .0 .0 .0 .0 .0 .0 .0 .1), ne-eqb b 0x44 (r .0 .0 .0 .0 .0 .0 .0 .0 .0 .1), ne-eqb b 0x48 (r .0 .0 .0 .0 .0 .0 .0 .0 .1), ne-eqb b 0x4A (r .0 .0 .0 .0 .0 .0 .0 .1))
+    (rw (ne-eqb b 0x4B (r .0 .0 .0 .0 .0 .0 .1), ne-eqb b 0x4C (r .0 .0 .0 .0 .0 .1), ne-eqb b 0x4D (r .0 .0 .0 .0 .1), ne-eqb b 0x50 (r .0 .0 .0 .1), ne-eqb b 0x58 (r .0 .0 .1), ne-eqb b 0x66 (r .0 .1), ne-eqb b 0x72 (r .1))))
 
 pub plain-clears-spec : {M : Type 1} → statement M
-plain-clears-spec = tie.close (tie.spec (λ c κs. search needs) (λ c κs. search needs) returns)
+plain-clears-spec =
+    tie.close
+    (tie.spec (λ c. simp (c .match .keys1)) (λ c. simp (c .match .keys2)) (λ c. simp (c .match .keys3)) (λ c. simp (c .match .keys4)) (λ c. simp (c .match .keys5)) (λ c. simp (c .match .keys6)) (λ c. simp (c .match .keys7)) (λ c. simp (c .match .keys8)) (λ c. simp (c .match .keys9)) (λ c. simp (c .match .keys10)) (λ c. simp (c .match .keys11)) (λ c. simp (c .match .keys12)) (λ c. simp (c .match .keys13)) (λ c. simp (c .match .keys14)) returns-15)
