@@ -1,20 +1,36 @@
-// One command of the script: a letter, two numbers of two bytes, and for F the input.
-use crate::Session;
-use crate::output::flush;
+// The script's commands: each is a letter and two numbers of two bytes; after F comes the input, after Q a parser.
 use crate::output::least;
-use crate::output::number;
 use crate::output::put;
 use crate::output::put_bytes;
 use crate::output::put_number;
 use crate::output::put_words;
+use crate::pokes::number16;
 use crate::pokes::poke;
+use crate::pokes::poke_parser;
+use crate::views::put_core;
 use libc::STDIN_FILENO;
+use libc::STDOUT_FILENO;
 use terminal::State;
+use terminal::answers::number;
 use terminal::calls::ask;
 use terminal::calls::feed;
 use terminal::calls::read;
 use terminal::calls::start;
 use text::Written;
+ghost use Prim.Native.Nat.{_<_};
+
+// The newest state, how many words of the buffer are lent as the page, and whether the script goes on.
+struct Session {
+    state: State,
+    words: usize,
+    on: bool,
+}
+
+// Writes what was put into the buffer, up to a place.
+fn flush(out: &[u8], end: usize) {
+    let n = least(end, out.len());
+    io::write_all(STDOUT_FILENO, &out[..n]);
+}
 
 fn do_start(rows: u16, page: &mut [u16], out: &mut [u8]) -> State {
     let begun = start(rows as usize, page);
@@ -93,6 +109,18 @@ fn do_text(page: &[u16], space: &mut [u8], out: &mut [u8]) {
     }
 }
 
+fn do_view(state: State, out: &mut [u8]) {
+    let name = put(out, 0, b'V');
+    let end = put_core(out, name, state.core);
+    flush(out, end);
+}
+
+fn do_parser(state: State) -> State {
+    let mut bytes = [0u8; 37];
+    let _ = io::read_full(STDIN_FILENO, &mut bytes);
+    poke_parser(state, bytes)
+}
+
 fn set_word(page: &mut [u16], at: u16, word: u16) {
     let k = at as usize;
     if k < page.len() {
@@ -121,6 +149,7 @@ fn look(
         b'R' => do_read(state, lent, a, b, out),
         b'P' => do_page(lent, out),
         b'T' => do_text(lent, space, out),
+        b'V' => do_view(state, out),
         _ => {}
     }
 }
@@ -153,10 +182,6 @@ fn take(
     do_feed(state, &mut page[..words], &input[..n], &mut reply[..m], out)
 }
 
-fn number16(low: u8, high: u8) -> u16 {
-    (low as u16) + 256 * (high as u16)
-}
-
 fn with_state(session: Session, state: State) -> Session {
     Session {
         state,
@@ -186,7 +211,8 @@ fn carry(
         b'F' => with_state(session, take(session, a, b, page, input, reply, out)),
         b'A' => with_state(session, do_ask(state, out)),
         b'B' => with_state(session, poke(state, a, b)),
-        b'R' | b'P' | b'T' | b'W' => {
+        b'Q' => with_state(session, do_parser(state)),
+        b'R' | b'P' | b'T' | b'V' | b'W' => {
             look(session, letter, a, b, page, input, out);
             session
         }
@@ -199,7 +225,7 @@ fn carry(
 }
 
 // Reads a command, and carries it out.
-pub fn command(
+fn command(
     session: Session,
     page: &mut [u16],
     input: &mut [u8],
@@ -212,4 +238,32 @@ pub fn command(
     let a = number16(head[1], head[2]);
     let b = number16(head[3], head[4]);
     carry(session, letter, a, b, page, input, reply, out)
+}
+
+// The turns are counted down from a number that no run uses up, and none is left when the script ends.
+fn turns_left(on: bool, turns: u64) -> u64
+    requires { ⌜ 0 < turns ⌝ }
+    ensures { λ r. ⌜ r < turns ⌝ }
+{
+    if on { turns - 1 } else { 0 }
+}
+
+// Carries out the commands on standard input, and writes what each answers.
+pub fn carry_out(
+    state: State,
+    page: &mut [u16],
+    input: &mut [u8],
+    reply: &mut [u8],
+    out: &mut [u8],
+) {
+    let mut session = Session {
+        state,
+        words: 0,
+        on: true,
+    };
+    let mut turns = u64::MAX;
+    while 0 < turns {
+        session = command(session, page, input, reply, out);
+        turns = turns_left(session.on, turns);
+    }
 }

@@ -1,41 +1,30 @@
-// What is written of an answer, put together in a buffer. What does not fit is left out.
-use libc::STDOUT_FILENO;
-use terminal::Answer;
+// What is written of an answer, put together in a buffer. What does not fit is left out. Each function
+// takes the place to start at, and returns the place after what it put.
 ghost use mathlib.Core.Path.{_≡_};
-ghost use Prim.Native.Nat.{_≤_};
-ghost use lib.ListN.{length};
-ghost use Rattle.terminal.specs.Answers as answers;
+ghost use mathlib.Core.List.{[], _∷_};
+ghost use Prim.Native.Nat.{min};
+ghost use Rattle.compare.specs.Output.{PutAt, lowFirst, wordBytes};
 
 pub fn least(a: usize, b: usize) -> usize
-    ensures { λ r. ⌜ (r ≤ a) × (r ≤ b) ⌝ }
+    ensures { λ r. ⌜ r ≡ min a b ⌝ }
 {
     if a < b { a } else { b }
 }
 
-// The number of an answer (SCOPE 2).
-pub fn number(answer: Answer) -> u8
-    ensures { λ r. ⌜ r ≡ answers.number answer ⌝ }
+pub fn put(out: &mut [u8], at: usize, byte: u8) -> usize
+    ensures { λ r. ⌜ PutAt (now (out .entry)) at (byte ∷ []) (now (out .exit)) r ⌝ }
 {
-    match answer {
-        Answer::Done => 0,
-        Answer::Broken => 1,
-        Answer::WrongSize => 2,
-        Answer::NoRoom => 3,
-        Answer::OffPage => 4,
-    }
-}
-
-pub fn put(out: &mut [u8], at: usize, b: u8) -> usize {
     if at < out.len() {
-        out[at] = b;
-        at + 1
-    } else {
-        at
+        out[at] = byte;
+        return at + 1;
     }
+    at
 }
 
-// A number, its lowest byte first.
-pub fn put_number(out: &mut [u8], at: usize, n: u64, bytes: u8) -> usize {
+// So many bytes of a number, the lowest first.
+pub fn put_number(out: &mut [u8], at: usize, n: u64, bytes: u8) -> usize
+    ensures { λ r. ⌜ PutAt (now (out .entry)) at (lowFirst bytes n) (now (out .exit)) r ⌝ }
+{
     let mut rest = n;
     let mut next = at;
     let mut k = 0;
@@ -47,7 +36,9 @@ pub fn put_number(out: &mut [u8], at: usize, n: u64, bytes: u8) -> usize {
     next
 }
 
-pub fn put_bytes(out: &mut [u8], at: usize, from: &[u8]) -> usize {
+pub fn put_bytes(out: &mut [u8], at: usize, from: &[u8]) -> usize
+    ensures { λ r. ⌜ PutAt (now (out .entry)) at (now (from .entry)) (now (out .exit)) r ⌝ }
+{
     let mut next = at;
     let mut i = 0;
     while i < from.len() {
@@ -57,11 +48,16 @@ pub fn put_bytes(out: &mut [u8], at: usize, from: &[u8]) -> usize {
     next
 }
 
-fn wide(word: u16) -> u64 {
+fn wide(word: u16) -> u64
+    ensures { λ r. ⌜ r ≡ word ⌝ }
+{
     word as u64
 }
 
-pub fn put_words(out: &mut [u8], at: usize, from: &[u16]) -> usize {
+// Each word as two bytes.
+pub fn put_words(out: &mut [u8], at: usize, from: &[u16]) -> usize
+    ensures { λ r. ⌜ PutAt (now (out .entry)) at (wordBytes (now (from .entry))) (now (out .exit)) r ⌝ }
+{
     let mut next = at;
     let mut i = 0;
     while i < from.len() {
@@ -69,9 +65,4 @@ pub fn put_words(out: &mut [u8], at: usize, from: &[u16]) -> usize {
         i += 1;
     }
     next
-}
-
-pub fn flush(out: &[u8], end: usize) {
-    let n = least(end, out.len());
-    io::write_all(STDOUT_FILENO, &out[..n]);
 }

@@ -1,4 +1,5 @@
 -- The page is a front part of the buffer, by `least`.
+use native.Mathlib.Omega.{arith}
 use mathlib.Core.Path.{sym}
 use lib.Seq.{length-take-le}
 use borrow.Author.Needs.{needs}
@@ -12,7 +13,7 @@ slice-relend-prefix-do-start : tie.Need-slice-relend-prefix-do-start
 slice-relend-prefix-do-start c = search needs
 
 slice-aggregate-do-start : tie.Need-slice-aggregate-do-start
-slice-aggregate-do-start c = sym (length-take-le _ _ (c .before .least .ensures .1))
+slice-aggregate-do-start c = sym (length-take-le _ _ (omega (arith, c .before .least .ensures)))
 
 do-start-requires : tie.Need-do-start-requires
 do-start-requires c κs = search needs

@@ -1,4 +1,5 @@
 -- The text is a front part of the buffer, by `least`.
+use native.Mathlib.Omega.{arith}
 use mathlib.Core.Path.{sym}
 use lib.Seq.{length-take-le}
 use borrow.Author.Needs.{needs}
@@ -24,7 +25,9 @@ slice-reshare-prefix-put-bytes : tie.Need-slice-reshare-prefix-put-bytes
 slice-reshare-prefix-put-bytes c = search needs
 
 slice-aggregate-put-bytes : tie.Need-slice-aggregate-put-bytes
-slice-aggregate-put-bytes c = sym (length-take-le _ _ (c .before .before .before .before .before .before .before .before .before .before .least .ensures .1))
+slice-aggregate-put-bytes c =
+    let bound = c .before .before .before .before .before .before .before .before .before .before in
+    sym (length-take-le _ _ (omega (arith, bound .least .ensures)))
 
 put-bytes-requires : tie.Need-put-bytes-requires
 put-bytes-requires c κs = search needs

@@ -1,4 +1,5 @@
 -- The page is a front part of the buffer, by `least`.
+use native.Mathlib.Omega.{arith}
 use mathlib.Core.Path.{sym}
 use lib.Seq.{length-take-le}
 use borrow.Author.Needs.{needs}
@@ -21,7 +22,7 @@ slice-reshare-prefix-lent : tie.Need-slice-reshare-prefix-lent
 slice-reshare-prefix-lent c = search needs
 
 slice-aggregate-lent : tie.Need-slice-aggregate-lent
-slice-aggregate-lent c = sym (length-take-le _ _ (c .before .before .least .ensures .1))
+slice-aggregate-lent c = sym (length-take-le _ _ (omega (arith, c .before .before .least .ensures)))
 
 do-read-requires : tie.Need-do-read-requires
 do-read-requires c κs = search needs
@@ -31,6 +32,9 @@ do-page-requires c κs = search needs
 
 do-text-requires : tie.Need-do-text-requires
 do-text-requires c κs = search needs
+
+do-view-requires : tie.Need-do-view-requires
+do-view-requires c κs = search needs
 
 same-length-2 : tie.Need-same-length-2
 same-length-2 c = search needs
@@ -65,8 +69,17 @@ returns-4 c = search needs
 same-length-9 : tie.Need-same-length-9
 same-length-9 c = search needs
 
+same-length-10 : tie.Need-same-length-10
+same-length-10 c = search needs
+
 returns-5 : tie.Need-returns-5
 returns-5 c = search needs
+
+same-length-11 : tie.Need-same-length-11
+same-length-11 c = search needs
+
+returns-6 : tie.Need-returns-6
+returns-6 c = search needs
 
 pub look-spec : {M : Type 1} → statement M
 look-spec =
@@ -81,6 +94,7 @@ look-spec =
     do-read-requires
     do-page-requires
     do-text-requires
+    do-view-requires
     same-length-2
     same-length-3
     returns-2
@@ -92,4 +106,7 @@ look-spec =
     same-length-8
     returns-4
     same-length-9
-    returns-5)
+    same-length-10
+    returns-5
+    same-length-11
+    returns-6)

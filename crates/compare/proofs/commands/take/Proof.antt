@@ -19,7 +19,7 @@ slice-relend-prefix-read-full : tie.Need-slice-relend-prefix-read-full
 slice-relend-prefix-read-full c = search needs
 
 slice-aggregate-read-full : tie.Need-slice-aggregate-read-full
-slice-aggregate-read-full c = sym (length-take-le _ _ (c .before .before .least2 .ensures .1))
+slice-aggregate-read-full c = sym (length-take-le _ _ (omega (arith, c .before .before .least2 .ensures)))
 
 read-full-requires : tie.Need-read-full-requires
 read-full-requires c κs = search needs
@@ -28,19 +28,21 @@ slice-relend-prefix-do-feed : tie.Need-slice-relend-prefix-do-feed
 slice-relend-prefix-do-feed c = search needs
 
 slice-aggregate-do-feed : tie.Need-slice-aggregate-do-feed
-slice-aggregate-do-feed c = sym (length-take-le _ _ (c .before .before .before .before .before .before .before .least .ensures .1))
+slice-aggregate-do-feed c = sym (length-take-le _ _ (omega (arith, c .before .before .before .before .before .before .before .least .ensures)))
 
 slice-reshare-prefix-do-feed : tie.Need-slice-reshare-prefix-do-feed
 slice-reshare-prefix-do-feed c = search needs
 
 slice-aggregate-do-feed-2 : tie.Need-slice-aggregate-do-feed-2
-slice-aggregate-do-feed-2 c = sym (length-take-le _ _ (omega (arith, c .before .before .before .before .before .before .before .least2 .ensures .1, c .before .before .before .before .read-full .kept)))
+slice-aggregate-do-feed-2 c =
+    let read = c .before .before .before .before in
+    sym (length-take-le _ _ (omega (arith, read .before .before .before .least2 .ensures, read .read-full .kept)))
 
 slice-relend-prefix-do-feed-2 : tie.Need-slice-relend-prefix-do-feed-2
 slice-relend-prefix-do-feed-2 c = search needs
 
 slice-aggregate-do-feed-3 : tie.Need-slice-aggregate-do-feed-3
-slice-aggregate-do-feed-3 c = sym (length-take-le _ _ (c .before .before .before .before .before .before .before .least3 .ensures .1))
+slice-aggregate-do-feed-3 c = sym (length-take-le _ _ (omega (arith, c .before .before .before .before .before .before .before .least3 .ensures)))
 
 do-feed-requires : tie.Need-do-feed-requires
 do-feed-requires c κs = search needs

@@ -1,19 +1,20 @@
--- Each turn keeps the buffer's length.
+-- The loop's invariant: the bytes from `i` on are still to be put.
+use native.Mathlib.Omega.{arith}
 use borrow.Author.Needs.{needs}
-use mathlib.Core.Path.{_≡_}
-use lib.ListN.{length}
-use Prim.Native.Nat.{ℕ, _-_, _≤_}
+use Prim.Native.Nat.{_-_, _≤_}
+use lib.ListN.{length, drop, drop-of-length-le}
+use Rattle.compare.proofs.OutputLaws.{Remaining, all-remains, none-remains, bytes-less}
 use Rattle.compare.proofs.output.put_bytes.Statement.{statement}
 use Rattle.compare.proofs.output.put_bytes.Tie as tie
 
 abbrev Inv-loop : tie.InvT-loop
-Inv-loop out₀ at from next₀ i₀ out next i = length out ≡ length out₀
+Inv-loop out₀ at from next₀ i₀ out next i = (i ≤ length from) × Remaining out₀ at from out next (drop i from)
 
 abbrev μ-loop : tie.MeasureT-loop
 μ-loop out₀ at from next₀ i₀ out next i = length from - i
 
 loop-holds : tie.Need-loop-holds Inv-loop μ-loop
-loop-holds c = search needs
+loop-holds c = (omega arith, all-remains _ _ _)
 
 shared-slice-read-put : tie.Need-shared-slice-read-put Inv-loop μ-loop
 shared-slice-read-put c = search needs
@@ -28,13 +29,16 @@ loop-less : tie.Need-loop-less Inv-loop μ-loop
 loop-less c = search needs
 
 loop-again : tie.Need-loop-again Inv-loop μ-loop
-loop-again c = search needs
+loop-again c =
+    let called = c .before .before in
+    let head = called .before .before .before in
+    (omega arith, bytes-less _ _ (head .loop-test .taken) (head .before .loop .inv .1) (called .put .ensures))
 
 same-length : tie.Need-same-length Inv-loop μ-loop
-same-length c = search needs
+same-length c = c .before .loop .inv .1 .long
 
 returns : tie.Need-returns Inv-loop μ-loop
-returns c = search needs
+returns c = none-remains (rw (drop-of-length-le _ (c .loop-test .left)) at (c .before .loop .inv .1))
 
 pub put-bytes-spec : {M : Type 1} → statement M
 put-bytes-spec =

@@ -1,19 +1,20 @@
--- Each turn keeps the buffer's length.
+-- The loop's invariant: what is left of the number is still to be put.
+use native.Mathlib.Omega.{arith}
 use borrow.Author.Needs.{needs}
-use mathlib.Core.Path.{_≡_}
-use lib.ListN.{length}
-use Prim.Native.Nat.{ℕ, _-_, _≤_}
+use Prim.Native.Nat.{_-_, _≤_}
+use Rattle.compare.specs.Output.{lowFirst}
+use Rattle.compare.proofs.OutputLaws.{Remaining, number-whole, number-less, number-done}
 use Rattle.compare.proofs.output.put_number.Statement.{statement}
 use Rattle.compare.proofs.output.put_number.Tie as tie
 
 abbrev Inv-loop : tie.InvT-loop
-Inv-loop out₀ at n bytes rest₀ next₀ k₀ out rest next k = length out ≡ length out₀
+Inv-loop out₀ at n bytes rest₀ next₀ k₀ out rest next k = (k ≤ bytes) × Remaining out₀ at (lowFirst bytes n) out next (lowFirst (bytes - k) rest)
 
 abbrev μ-loop : tie.MeasureT-loop
 μ-loop out₀ at n bytes rest₀ next₀ k₀ out rest next k = bytes - k
 
 loop-holds : tie.Need-loop-holds Inv-loop μ-loop
-loop-holds c = search needs
+loop-holds c = (omega arith, number-whole _ _ (c .before .args .n) (c .before .args .bytes))
 
 cast-put : tie.Need-cast-put Inv-loop μ-loop
 cast-put c = search needs
@@ -28,13 +29,16 @@ loop-less : tie.Need-loop-less Inv-loop μ-loop
 loop-less c = search needs
 
 loop-again : tie.Need-loop-again Inv-loop μ-loop
-loop-again c = search needs
+loop-again c =
+    let called = c .before .before in
+    let head = called .before .before in
+    (omega arith, number-less _ _ _ (head .loop-test .taken) (head .before .loop .inv .1) (called .put .ensures))
 
 same-length : tie.Need-same-length Inv-loop μ-loop
-same-length c = search needs
+same-length c = c .before .loop .inv .1 .long
 
 returns : tie.Need-returns Inv-loop μ-loop
-returns c = search needs
+returns c = number-done _ _ _ (c .loop-test .left) (c .before .loop .inv .1)
 
 pub put-number-spec : {M : Type 1} → statement M
 put-number-spec =

@@ -2,12 +2,12 @@
 use borrow.Author.Needs.{needs}
 use mathlib.Core.Path.{_≡_}
 use lib.ListN.{length}
-use Prim.Native.Nat.{ℕ}
-use Rattle.compare.proofs.carry_out.Statement.{statement}
-use Rattle.compare.proofs.carry_out.Tie as tie
+use Rattle.compare.proofs.commands.carry_out.Statement.{statement}
+use Rattle.compare.proofs.commands.carry_out.Tie as tie
 
 abbrev Inv-loop : tie.InvT-loop
-Inv-loop page₀ input₀ reply₀ out₀ session₀ turns₀ page input reply out session turns = (length page ≡ length page₀) × (length input ≡ length input₀) × (length reply ≡ length reply₀) × (length out ≡ length out₀)
+Inv-loop page₀ input₀ reply₀ out₀ session₀ turns₀ page input reply out session turns =
+    (length page ≡ length page₀) × (length input ≡ length input₀) × (length reply ≡ length reply₀) × (length out ≡ length out₀)
 
 abbrev μ-loop : tie.MeasureT-loop
 μ-loop page₀ input₀ reply₀ out₀ session₀ turns₀ page input reply out session turns = turns

@@ -1,15 +1,16 @@
 -- What is written is a front part of the buffer, by `least`.
+use native.Mathlib.Omega.{arith}
 use mathlib.Core.Path.{sym}
 use lib.Seq.{length-take-le}
 use borrow.Author.Needs.{needs}
-use Rattle.compare.proofs.output.flush.Statement.{statement}
-use Rattle.compare.proofs.output.flush.Tie as tie
+use Rattle.compare.proofs.commands.flush.Statement.{statement}
+use Rattle.compare.proofs.commands.flush.Tie as tie
 
 least-requires : tie.Need-least-requires
 least-requires c κs = search needs
 
 slice-aggregate-write-all : tie.Need-slice-aggregate-write-all
-slice-aggregate-write-all c = sym (length-take-le _ _ (c .before .least .ensures .1))
+slice-aggregate-write-all c = sym (length-take-le _ _ (omega (arith, c .before .least .ensures)))
 
 write-all-requires : tie.Need-write-all-requires
 write-all-requires c κs = search needs
