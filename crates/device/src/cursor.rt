@@ -133,14 +133,6 @@ impl Cursor {
         self
     }
 
-    // Where it is, no wrap due.
-    pub fn no_wrap(mut self) -> Self
-        ensures { λ r. ⌜ r ≡ moves.noWrap self ⌝ }
-    {
-        self.wrap = false;
-        self
-    }
-
     // How many cells stand before the cursor's, in reading order.
     pub fn offset(self) -> u16
         requires { ⌜ (1 ≤ self .row) × (1 ≤ self .column) ⌝ }

@@ -106,15 +106,12 @@ pub fn clears_wrap(core: Core, action: Action) -> bool
     }
 }
 
-// The policy is put into effect.
+// The policy is put into effect, where the cursor lies in the decision (docs/DECISIONS.md, "Shape").
 pub fn settle(clears: bool, mut decision: Decision) -> Decision
     ensures { λ r. ⌜ r ≡ wrap.settled clears decision ⌝ }
 {
     if clears {
-        let mut core = decision.core;
-        let cursor = core.cursor;
-        core.cursor = cursor.no_wrap();
-        decision.core = core;
+        decision.core.cursor.wrap = false;
         return decision;
     }
     decision
