@@ -17,8 +17,10 @@
  * - A pointer is not NULL, also where its length is 0, and is aligned for its type.
  * - What a call writes through one pointer does not overlap what it is lent through another.
  * - A record may hold any bytes. One that is not whole is refused with PANKHOLIM_BROKEN: all zero bytes always,
- *   and what a start, or an unrefused feeding or asking, left never. It holds no pointers, so a copy of it, at
- *   any address, is a record for a copy of its page.
+ *   and what an unrefused start, feeding or asking left never. It holds no pointers, so a copy of it, at any
+ *   address, is a record for a copy of its page.
+ * - A record's last three bytes are unused. No call looks at them, and an unrefused start, feeding or asking
+ *   writes them 0; so what these leave are the same 96 bytes wherever the state is the same.
  * - Cells of a page may hold any word.
  * - Answers 1, 2 and 4 are refusals; they leave what was lent, but for what is said at the call. 1 is looked
  *   at before 2, and 2 before 4.
@@ -79,12 +81,12 @@ typedef struct {
  * Starts a terminal with a page of `rows` rows, which is to have PANKHOLIM_CELLS(rows) cells.
  *
  * 0: the record is fresh (cursor 1,1, no row changed), every cell is blank.
- * 1: `rows` is not 24, 36 or 48. 2: `cells` is not 80 * rows. Both leave the page, and make the record that
- * of a fresh terminal of 24 rows, whole for a page of 1,920 cells.
+ * 1: `rows` is not 24, 36 or 48. 2: `cells` is not 80 * rows. Both leave record and page.
  *
- * The record may hold anything before; it is only written.
+ * The record may hold anything before. A refused start leaves just that, so a record is a terminal's only after
+ * a start that was answered 0.
  */
-uint8_t pankholim_start(pankholim_terminal *terminal, uint8_t rows, uint16_t *page, size_t cells);
+uint8_t pankholim_start(pankholim_terminal *terminal, size_t rows, uint16_t *page, size_t cells);
 
 /*
  * Feeds `length` bytes from the modem. Sequences may be cut anywhere between two calls.
@@ -96,8 +98,8 @@ uint8_t pankholim_start(pankholim_terminal *terminal, uint8_t rows, uint16_t *pa
  * 1: the record is not whole. 2: `cells` does not fit the record. Both set *read and *replied to 0, and
  *    leave record, page and reply. 2 is also answered to empty input.
  *
- * Empty input is answered 0 with 0 read, 0 replied and nothing changed. Where no reply falls due, no room is
- * needed.
+ * Empty input is answered 0 with 0 read, 0 replied and nothing changed but the unused bytes. Where no reply
+ * falls due, no room is needed.
  */
 uint8_t pankholim_feed(pankholim_terminal *terminal, uint16_t *page, size_t cells, const uint8_t *input,
                        size_t length, uint8_t *reply, size_t room, size_t *read, size_t *replied);

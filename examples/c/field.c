@@ -120,7 +120,10 @@ int main(int argc, char **argv)
         perror(argv[1]);
         return 1;
     }
-    pankholim_start(&terminal, ROWS, page, CELLS);
+    if (pankholim_start(&terminal, ROWS, page, CELLS) != PANKHOLIM_DONE) {
+        fclose(file);
+        return 1;
+    }
     print_changed("before");
     read = feed_file(file);
     fclose(file);

@@ -1,6 +1,6 @@
 //! A plain reference program for the VT420 console reader.
 //!
-//! It is written from the specification ("document 01") alone, and is slow on
+//! It is written from the scope paper (see docs/SCOPE.md) alone, and is slow on
 //! purpose: during a call the page is rows of unpacked cells; every step makes
 //! a whole new page; the rows that a step changed are found by comparing the
 //! whole page before it with the whole page after it.
@@ -15,10 +15,13 @@
 //! * `text`: the page as text.
 //! * `grammar`: seeded hostile byte streams for comparing.
 //! * `script`: scripts of calls, and carrying them out.
+//! * `words`: commands and what they wrote, in words.
+//! * `examples`: examples as text, as scripts.
 //! * `plan`: the scripts that are compared.
 
 pub mod calls;
 pub mod cell;
+pub mod examples;
 pub mod functions;
 pub mod grammar;
 pub mod page;
@@ -28,8 +31,9 @@ pub mod reply;
 pub mod script;
 pub mod state;
 pub mod text;
+pub mod words;
 
 pub use calls::{ask, feed, read_cell, start};
-pub use parser::Parser;
+pub use parser::{Given, Parser};
 pub use state::{is_whole, Cursor, Saved, Sets, Slot, State};
 pub use text::text;

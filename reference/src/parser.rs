@@ -22,6 +22,25 @@ pub enum Parser {
     ControlIgnored,
     /// A string.
     String,
+    /// What a script set, until the next byte.
+    Given(Given),
+}
+
+/// A parser with every number that the scope's wholeness speaks of, in range
+/// or not.
+#[derive(Clone, Copy, PartialEq, Eq, Debug)]
+pub struct Given {
+    /// 0 nothing in progress; 1, 2, 3 an escape sequence with no, one, two
+    /// intermediates; 4 one that is ignored; 5 a control sequence of which
+    /// nothing is read; 6 one with a mark, digit or 3B read; 7, 8 one with one,
+    /// two intermediates; 9 one that is ignored; 10 a string.
+    pub phase: u8,
+    /// 0 is none.
+    pub mark: u8,
+    pub intermediates: [u8; MOST_INTERMEDIATES],
+    /// How many 3B were read, counted up to 16.
+    pub separators: u8,
+    pub values: [u16; MOST_PARAMETERS],
 }
 
 /// What a byte asks for, beyond the new parser.
@@ -83,6 +102,7 @@ impl Parser {
                     && parameters.iter().all(|&value| value <= HIGHEST_PARAMETER)
                     && good_intermediates(intermediates)
             }
+            Parser::Given(given) => given.is_whole(),
             _ => true,
         }
     }
@@ -97,6 +117,7 @@ impl Parser {
             0x80..=0x9F => high_control(byte),
             // The others go by what is in progress.
             _ => match self {
+                Parser::Given(given) => given.own_form().read(byte),
                 Parser::Ground if byte < 0x20 => (Parser::Ground, Event::Control(byte)),
                 Parser::Ground => (Parser::Ground, Event::Print(byte)),
                 Parser::String => (Parser::String, Event::Nothing),
@@ -128,7 +149,56 @@ impl Parser {
                 0x20..=0x3F => (Parser::ControlIgnored, Event::Nothing),
                 _ => (Parser::Ground, Event::Nothing),
             },
-            Parser::Ground | Parser::String => (self.clone(), Event::Nothing),
+            Parser::Ground | Parser::String | Parser::Given(_) => (self.clone(), Event::Nothing),
+        }
+    }
+}
+
+impl Given {
+    /// At most 16 parameters, none above 9,999; at most two intermediates, 20 to
+    /// 2F; mark none or 3C to 3F. No phase is exempt.
+    pub fn is_whole(&self) -> bool {
+        let marks = self.mark == 0 || (0x3C..=0x3F).contains(&self.mark);
+        let count = self.separators as usize <= MOST_PARAMETERS;
+        let low = |&value: &u16| value as u32 <= HIGHEST_PARAMETER;
+        let intermediate = |byte: &u8| (0x20..=0x2F).contains(byte);
+        marks
+            && count
+            && self.parameters().iter().all(low)
+            && self.counted_intermediates().iter().all(intermediate)
+    }
+
+    /// The first (separators + 1), 16 at most.
+    fn parameters(&self) -> &[u16] {
+        &self.values[..(self.separators as usize + 1).min(MOST_PARAMETERS)]
+    }
+
+    /// As many as the phase says.
+    fn counted_intermediates(&self) -> &[u8] {
+        match self.phase {
+            2 | 7 => &self.intermediates[..1],
+            3 | 8 => &self.intermediates,
+            _ => &[],
+        }
+    }
+
+    /// The same as this program keeps it. Mark and parameters count only in a
+    /// control sequence of which something is read.
+    fn own_form(&self) -> Parser {
+        let intermediates = self.counted_intermediates().to_vec();
+        match self.phase {
+            0 => Parser::Ground,
+            1..=3 => Parser::Escape { intermediates },
+            4 => Parser::EscapeIgnored,
+            5 => NEW_CONTROL,
+            6..=8 => Parser::Control {
+                mark: Some(self.mark).filter(|&mark| mark != 0),
+                parameters: self.parameters().iter().map(|&v| v as u32).collect(),
+                dropping: self.separators as usize == MOST_PARAMETERS,
+                intermediates,
+            },
+            9 => Parser::ControlIgnored,
+            _ => Parser::String,
         }
     }
 }

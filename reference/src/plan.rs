@@ -1,7 +1,9 @@
 //! What is compared, as scripts. The fixed parts are always the same; the
 //! streams depend on a seed alone.
 
+use crate::examples;
 use crate::grammar::{stream, Random};
+use crate::parser::Given;
 use crate::script::*;
 
 pub const SIZES: [u16; 3] = [24, 36, 48];
@@ -40,12 +42,15 @@ pub fn whole(seed: u64, bytes: usize) -> Script {
 pub fn fixed_parts() -> Vec<Script> {
     vec![
         before_any_start(),
-        examples(),
+        document_examples(),
+        examples::script(),
         captures(),
         functions_at_the_edges(),
         bytes_in_each_phase(),
         rooms(),
         broken_states(),
+        parsers_at_the_edges(),
+        parsers_that_go_on(),
         wrong_lengths(),
         all_starts(),
     ]
@@ -58,6 +63,7 @@ pub fn before_any_start() -> Script {
     let mut s = Script::new();
     s.page();
     s.text();
+    s.view();
     s.ask();
     s.read(1, 1);
     s.read(0, 0);
@@ -76,6 +82,7 @@ pub fn before_any_start() -> Script {
     s.read(1, 1);
     s.feed(b"\x1B[6nx", ROOM);
     s.ask();
+    s.view();
     s.page();
     s.lend(65535);
     s.page();
@@ -88,11 +95,12 @@ fn look(s: &mut Script) {
     s.ask();
     s.feed(b"\x1B[6n", ROOM);
     s.feed(b"\x1B[?6n", ROOM);
+    s.view();
     s.text();
 }
 
-/// Document 01's examples, in each size of page.
-pub fn examples() -> Script {
+/// The examples of SCOPE 11, in each size of page.
+pub fn document_examples() -> Script {
     let fed: [&[u8]; 9] = [
         b"\x1B[5;77H1.10",
         b"\x1B[?7h\x1B[5;77H1.10",
@@ -165,6 +173,7 @@ pub fn captures() -> Script {
                     s.feed(piece, 100);
                     if length > 1 {
                         s.ask();
+                        s.view();
                     }
                 }
                 look(&mut s);
@@ -605,10 +614,13 @@ pub fn functions_at_the_edges() -> Script {
                     }
                 }
                 s.feed(&preparation.bytes, 0);
+                s.view();
                 s.ask();
                 s.feed(function, ROOM);
+                s.view();
                 s.feed(b"", 0);
                 s.ask();
+                s.view();
                 for column in near(column) {
                     s.read(row, column);
                 }
@@ -625,6 +637,7 @@ pub fn functions_at_the_edges() -> Script {
                 }
                 // Wrap due, the sets and the shift show in what is printed.
                 s.feed(b"q\xF1", 0);
+                s.view();
                 s.ask();
                 s.feed(b"\x1B[6n", ROOM);
                 s.read(row, column);
@@ -698,9 +711,11 @@ pub fn bytes_in_each_phase() -> Script {
                 s.feed(phase, ROOM);
                 s.ask();
                 s.feed(&[byte], ROOM);
+                s.view();
                 s.ask();
                 s.feed(markers[number % 3], ROOM);
                 number += 1;
+                s.view();
                 s.ask();
                 s.text();
                 s.feed(b"\x18\x1B[6n", ROOM);
@@ -769,7 +784,7 @@ pub fn rooms() -> Script {
 
 // ---- Broken states ----------------------------------------------------------
 
-const FIELDS: [u16; 12] = [
+const FIELDS: [u16; 13] = [
     ROWS,
     ROW,
     COLUMN,
@@ -781,6 +796,7 @@ const FIELDS: [u16; 12] = [
     SAVED_ROW,
     SAVED_COLUMN,
     SAVED_WRAP_DUE,
+    SHOWN,
     CHANGED_ROW,
 ];
 
@@ -792,6 +808,7 @@ const VALUES: [u16; 38] = [
 /// All four calls on a state that may be broken.
 fn all_calls(s: &mut Script, rows: u16) {
     s.feed(b"", 3);
+    s.view();
     s.read(1, 1);
     s.read(rows, 80);
     s.read(rows + 1, 80);
@@ -801,6 +818,7 @@ fn all_calls(s: &mut Script, rows: u16) {
     s.feed(b"\x1B8q", ROOM);
     s.feed(b"\n\x1B[6n\x1B[?6n", 2 * ROOM);
     s.ask();
+    s.view();
     s.text();
 }
 
@@ -872,7 +890,383 @@ pub fn broken_states() -> Script {
         s.start_right(rows);
         s.feed(b"", 0);
     }
+    // The cursor shown and not.
+    let functions: [&[u8]; 7] = [
+        b"\x1B[?25h",
+        b"\x1B[?25l",
+        b"\x1B7",
+        b"\x1B8",
+        b"\x1B[!p",
+        b"\x1Bc",
+        b"\x1B7\x1B[?25h\x1B8",
+    ];
+    for rows in SIZES {
+        for before in befores {
+            for shown in [0, 1] {
+                for function in functions {
+                    s.start_right(rows);
+                    s.feed(before, 0);
+                    s.field(SHOWN, shown);
+                    s.view();
+                    s.feed(function, 0);
+                    s.view();
+                }
+            }
+        }
+    }
     s
+}
+
+// ---- Parsers that are set ---------------------------------------------------
+
+/// Nothing in progress and nothing left over. What is no part of the state is
+/// out of range.
+const IDLE: Given = Given {
+    phase: 0,
+    mark: 0,
+    intermediates: [0xFF; 2],
+    separators: 0,
+    values: {
+        let mut values = [0xFFFF; 16];
+        values[0] = 0;
+        values
+    },
+};
+
+const MARKS: [u8; 8] = [0x00, 0x01, 0x3B, 0x3C, 0x3F, 0x40, 0x7F, 0xFF];
+const SEPARATORS: [u8; 7] = [0, 1, 14, 15, 16, 17, 255];
+const INTERMEDIATES: [u8; 4] = [0x1F, 0x20, 0x2F, 0x30];
+
+/// Every phase with every mark, number of separators, value and intermediate at
+/// and beyond its edge: is it whole? Then what is in progress is dropped.
+pub fn parsers_at_the_edges() -> Script {
+    let mut list = Vec::new();
+    for phase in 0..11 {
+        for mark in MARKS {
+            for separators in SEPARATORS {
+                let kept = (separators as usize + 1).min(16);
+                let given = Given {
+                    phase,
+                    mark,
+                    intermediates: [0x20, 0x2F],
+                    separators,
+                    values: [0; 16],
+                };
+                list.push(given);
+                // The first, the last kept and the first not kept.
+                for place in [0, kept - 1, kept] {
+                    for value in [9_999, 10_000, 65_535] {
+                        let mut given = given;
+                        if place < 16 {
+                            given.values[place] = value;
+                            list.push(given);
+                        }
+                    }
+                }
+            }
+        }
+        // Every place with a value too high, whatever the separators.
+        for separators in 0..=17 {
+            for place in 0..16 {
+                let mut values = [9_999; 16];
+                values[place] = 10_000;
+                list.push(Given {
+                    phase,
+                    separators,
+                    values,
+                    intermediates: [0x2F, 0x20],
+                    ..IDLE
+                });
+            }
+        }
+        for first in INTERMEDIATES {
+            for second in INTERMEDIATES {
+                for (mark, separators) in [(0, 0), (0x3F, 1), (0x3C, 16), (0x3B, 0), (0, 17)] {
+                    list.push(Given {
+                        phase,
+                        mark,
+                        intermediates: [first, second],
+                        separators,
+                        values: [9_999; 16],
+                    });
+                }
+            }
+        }
+    }
+    // Every mark and every intermediate; a phase is taken modulo 11.
+    for byte in 0..=255 {
+        list.push(Given { mark: byte, ..IDLE });
+        list.push(Given {
+            phase: 2,
+            intermediates: [byte, 0xFF],
+            ..IDLE
+        });
+        list.push(Given {
+            phase: 8,
+            intermediates: [0x20, byte],
+            ..IDLE
+        });
+        list.push(Given {
+            phase: byte,
+            intermediates: [0x20, 0x30],
+            ..IDLE
+        });
+    }
+    let mut s = Script::new();
+    for (number, given) in list.iter().enumerate() {
+        let rows = SIZES[number % 3];
+        let dropped: &[u8] = match number % 2 {
+            0 => b"\x18\x9B;5mb\x9B6n",
+            _ => b"\x1Bc\x9B;7mb\x9B6n",
+        };
+        s.start_right(rows);
+        s.parser(given);
+        s.ask();
+        s.feed(b"", 1);
+        s.read(1, 1);
+        s.feed(dropped, ROOM);
+        s.view();
+        s.read(1, 1);
+    }
+    s
+}
+
+/// Parsers that reading bytes can leave, and in what follows each the end of the
+/// sequence.
+fn parsers_left_by_bytes() -> Vec<(Given, Vec<&'static [u8]>)> {
+    let control: Vec<&[u8]> = vec![
+        b"H",
+        b"5H",
+        b";5H",
+        b"m",
+        b"1m",
+        b";1m",
+        b"r",
+        b"9r",
+        b";9r",
+        b"f",
+        b"h",
+        b"l",
+        b"7h",
+        b";7l",
+        b";25l",
+        b"J",
+        b"K",
+        b"L",
+        b"P",
+        b"X",
+        b"n",
+        b"c",
+        b"g",
+        b"\"q",
+        b"0\"q",
+        b"!p",
+        b" q",
+        b"!!p",
+        b":5H",
+        b"?5H",
+        b"<5H",
+        b"\x7FH",
+        b"\xC8",
+        b"\xB7;\xB7\xC8",
+        b"\nH",
+        b"\x085C",
+        b"\x18H",
+        b"\x1AH",
+        b"\x1BH",
+        b"\x84H",
+        b"\x9B7;7H",
+        b";;;;;;;;;;;;;;;;5m",
+    ];
+    let after_intermediate: Vec<&[u8]> = vec![
+        b"q",
+        b"p",
+        b"H",
+        b"m",
+        b"!p",
+        b"\"q",
+        b"!!p",
+        b"1q",
+        b";q",
+        b"?q",
+        b":q",
+        b"\x7Fq",
+        b"\xF1",
+        b"\nq",
+        b"\x18q",
+        b"\x1B7",
+        b"\x9B1\"q",
+    ];
+    let escape: Vec<&[u8]> = vec![
+        b"7", b"8", b"c", b"D", b"E", b"H", b"M", b"Z", b"n", b"B", b"0", b"A", b"5", b"F", b"G",
+        b"(0", b"%5", b"#8", b" G", b"%%5", b"\x7F0", b"\xB0", b"\n0", b"\x180", b"]x\x9Cy",
+        b"[5;7H", b"[?7h", b"[7m", b"\x9B;7H",
+    ];
+    let other: Vec<&[u8]> = vec![
+        b"x",
+        b"H",
+        b"7;7H",
+        b"\xE1",
+        b"\n",
+        b"\x7F",
+        b"\x18x",
+        b"\x1Ax",
+        b"\x1B[H",
+        b"\x1B[5;7H",
+        b"\x1B[m",
+        b"\x1B[;7m",
+        b"\x9B7h",
+        b"\x9B?7h",
+        b"\x9B;5H",
+        b"\x1B[;;;;;;;;;;;;;;;;1m",
+        b"\x9Cx",
+        b"\x1B\\x",
+        b"\x84x",
+        b"\x1B[6n",
+        b"\x1B7x",
+    ];
+    let mut list = Vec::new();
+    // Marks and parameters, with what is past the last parameter out of range.
+    let lists: [&[u16]; 7] = [
+        &[3],
+        &[5, 10],
+        &[1, 4, 7],
+        &[7, 6, 25],
+        &[4, 20],
+        &[9_999],
+        &[0],
+    ];
+    let mut contents = Vec::new();
+    for values in lists {
+        for mark in [0, 0x3F, 0x3E] {
+            let mut given = IDLE;
+            given.mark = mark;
+            given.separators = values.len() as u8 - 1;
+            given.values[..values.len()].copy_from_slice(values);
+            contents.push(given);
+        }
+    }
+    // The last parameters that are kept, and a later one being dropped.
+    for separators in [13, 14, 15, 16] {
+        for (mark, last) in [(0, 7), (0x3F, 7), (0, 999), (0, 9_999)] {
+            let mut given = Given {
+                mark,
+                separators,
+                ..IDLE
+            };
+            let kept = (separators as usize + 1).min(16);
+            given.values[..kept].fill(0);
+            given.values[kept - 1] = last;
+            contents.push(given);
+        }
+    }
+    list.push((Given { phase: 5, ..IDLE }, control.clone()));
+    for &given in &contents {
+        list.push((Given { phase: 6, ..given }, control.clone()));
+        for intermediate in [0x22, 0x21, 0x20, 0x2F] {
+            let mut given = Given { phase: 7, ..given };
+            given.intermediates[0] = intermediate;
+            list.push((given, after_intermediate.clone()));
+        }
+        for intermediates in [[0x21, 0x22], [0x20, 0x2F]] {
+            let given = Given {
+                phase: 8,
+                intermediates,
+                ..given
+            };
+            list.push((given, after_intermediate.clone()));
+        }
+        // Left over.
+        for phase in [0, 9, 10] {
+            list.push((Given { phase, ..given }, other.clone()));
+        }
+    }
+    let left_over = Given {
+        mark: 0x3F,
+        separators: 1,
+        values: [7; 16],
+        ..IDLE
+    };
+    for given in [IDLE, left_over] {
+        for intermediates in [
+            [0x28, 0x25],
+            [0x2B, 0x25],
+            [0x2D, 0x20],
+            [0x20, 0x23],
+            [0x23, 0x23],
+        ] {
+            for phase in 1..=3 {
+                let given = Given {
+                    phase,
+                    intermediates,
+                    ..given
+                };
+                list.push((given, escape.clone()));
+            }
+        }
+        list.push((Given { phase: 4, ..given }, escape.clone()));
+    }
+    for phase in [0, 4, 9, 10] {
+        list.push((Given { phase, ..IDLE }, other.clone()));
+    }
+    list
+}
+
+/// A parser is set as reading bytes can leave it, and the sequence goes on: with
+/// and without origin, insert and wrap due. Control sequences before an
+/// intermediate go on in all eight situations, the others in one, in turn.
+pub fn parsers_that_go_on() -> Script {
+    let mut s = Script::new();
+    let mut number = 0usize;
+    for (given, ends) in parsers_left_by_bytes() {
+        for end in ends {
+            let turn = (number * 5 + number / 8) % 8;
+            let situations = match given.phase {
+                5 | 6 => 0..8,
+                _ => turn..turn + 1,
+            };
+            for situation in situations {
+                s.start_right(24);
+                origin_insert_wrap(&mut s, situation);
+                s.parser(&given);
+                s.ask();
+                s.feed(end, ROOM);
+                s.view();
+                s.feed(b"q\xF1", ROOM);
+                s.view();
+                s.ask();
+                if number % 4 == 0 {
+                    s.page();
+                } else {
+                    s.text();
+                }
+                number += 1;
+            }
+        }
+    }
+    s
+}
+
+/// Origin with margins, insert and wrap due, by the bits of the number, in row 7.
+fn origin_insert_wrap(s: &mut Script, situation: usize) {
+    let column = if situation & 4 != 0 { 80 } else { 40 };
+    for column in near(column) {
+        s.word_at(7, column, word_of(7, column));
+    }
+    s.field(ROW, 7);
+    s.field(COLUMN, column);
+    if situation & 1 != 0 {
+        s.field(TOP, 5);
+        s.field(BOTTOM, 10);
+        s.field(ORIGIN, 1);
+    }
+    if situation & 2 != 0 {
+        s.feed(b"\x9B4h", 0);
+    }
+    if situation & 4 != 0 {
+        s.field(AUTOWRAP, 1);
+        s.field(WRAP_DUE, 1);
+    }
 }
 
 // ---- Wrong lengths ----------------------------------------------------------
@@ -954,6 +1348,7 @@ pub fn all_starts() -> Script {
             s.feed(b"q\x1B[9;9r\x1B[30;70Hxy", 0);
             s.word(100, 0xFFFF);
             s.start(rows, length);
+            s.view();
             s.read(1, 1);
             s.lend(1920);
             s.feed(b"z\x1B[99;99H\x1B[6n", ROOM);
@@ -967,19 +1362,32 @@ pub fn all_starts() -> Script {
             }
         }
     }
-    // R is taken modulo 256.
-    for rows in [256, 280, 292, 304, 65535, 24 * 256] {
-        s.start(rows, 1920);
-        s.start(rows, 2880);
-        s.start(rows, 3840);
-        s.feed(b"\x1B[99;99H\x1B[6n", ROOM);
+    // R is a number of 16 bits.
+    for rows in [
+        256,
+        256 + 24,
+        256 + 36,
+        256 + 48,
+        512 + 24,
+        24 * 256,
+        65_535,
+    ] {
+        for length in [1920, 2880, 3840] {
+            s.start_right(36);
+            s.feed(b"q\x1B[30;70Hxy", 0);
+            s.start(rows, length);
+            s.view();
+            s.page();
+            s.lend(1920);
+            s.feed(b"\x1B[99;99H\x1B[6n", ROOM);
+        }
     }
     s
 }
 
 // ---- The text of every word -------------------------------------------------
 
-/// Is the word's text settled by document 01 beyond doubt? (1A in another set
+/// Is the word's text settled by the scope beyond doubt? (1A in another set
 /// than ASCII, Special Graphics 7F, and codes that nothing prints are not.)
 pub fn is_settled(word: u16) -> bool {
     let code = word & 0x7F;
@@ -992,7 +1400,7 @@ pub fn is_settled(word: u16) -> bool {
 }
 
 /// The text of every word, settled or not; no part of the whole, for there the
-/// paper leaves room.
+/// scope leaves room.
 pub fn text_of_every_word() -> Script {
     let mut s = Script::new();
     s.start_right(24);
@@ -1130,7 +1538,8 @@ impl Session {
             if !random.percent((length * 2 + 4).min(60)) {
                 continue;
             }
-            match random.below(40) {
+            match random.below(44) {
+                40.. => self.script.view(),
                 0..=11 => self.script.ask(),
                 12..=25 => {
                     for _ in 0..random.between(1, 6) {
@@ -1174,6 +1583,7 @@ impl Session {
                 _ => self.script.feed(b"", room as u16),
             }
         }
+        self.script.view();
         self.script.ask();
         self.text();
     }
@@ -1197,8 +1607,10 @@ mod tests {
             let (mut count, mut input, mut length) = (0, 0, 0);
             for command in commands(&part.bytes) {
                 count += 1;
-                input += command.input.len();
-                length += 5 + command.input.len();
+                if command.letter == b'F' {
+                    input += command.following.len();
+                }
+                length += 5 + command.following.len();
             }
             assert_eq!(length, part.bytes.len());
             assert_eq!((count, input), (part.commands, part.input));

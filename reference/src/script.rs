@@ -3,8 +3,10 @@
 //! output, byte for byte. The format is in README.md.
 
 use crate::calls::{ask, feed, read_cell, start};
+use crate::cell::Rendition;
 use crate::page::COLUMNS;
-use crate::state::State;
+use crate::parser::{Given, Parser};
+use crate::state::{Sets, Shift, State};
 use crate::text::text;
 
 /// The words in the buffer; also the most reply bytes that a feeding is lent.
@@ -12,7 +14,7 @@ pub const BUFFER_WORDS: usize = 4_096;
 pub const MOST_ROOM: usize = 4_096;
 
 /// What every reply byte is before a feeding.
-const UNTOUCHED: u8 = 0xEE;
+pub const UNTOUCHED: u8 = 0xEE;
 
 /// The fields that `Script::field` names.
 pub const ROWS: u16 = 0;
@@ -26,7 +28,21 @@ pub const AUTOWRAP: u16 = 7;
 pub const SAVED_ROW: u16 = 8;
 pub const SAVED_COLUMN: u16 = 9;
 pub const SAVED_WRAP_DUE: u16 = 10;
+pub const SHOWN: u16 = 11;
 pub const CHANGED_ROW: u16 = 12;
+
+/// The bytes after the head of Q.
+const PARSER_BYTES: usize = 37;
+
+/// The bytes that V writes after its letter, and where some of them are.
+pub const VIEW_BYTES: usize = 48;
+pub const VIEW_ROW: usize = 1;
+pub const VIEW_COLUMN: usize = 2;
+pub const VIEW_WRAP_DUE: usize = 3;
+pub const VIEW_TOP: usize = 4;
+pub const VIEW_BOTTOM: usize = 5;
+pub const VIEW_SHOWN: usize = 10;
+pub const VIEW_TABS: usize = 38;
 
 /// A script being built.
 #[derive(Clone, Default)]
@@ -100,6 +116,22 @@ impl Script {
         self.command(b'B', field, value);
     }
 
+    /// The whole parser of the state.
+    pub fn parser(&mut self, given: &Given) {
+        self.command(b'Q', 0, 0);
+        self.bytes.extend([given.phase, given.mark]);
+        self.bytes.extend(given.intermediates);
+        self.bytes.push(given.separators);
+        for value in given.values {
+            self.bytes.extend(value.to_le_bytes());
+        }
+    }
+
+    /// Every field of the state but the parser and the changed rows.
+    pub fn view(&mut self) {
+        self.command(b'V', 0, 0);
+    }
+
     pub fn append(&mut self, other: &Script) {
         self.bytes.extend_from_slice(&other.bytes);
         self.commands += other.commands;
@@ -113,12 +145,12 @@ pub struct Command<'a> {
     pub letter: u8,
     pub a: u16,
     pub b: u16,
-    /// What a feeding is fed.
-    pub input: &'a [u8],
+    /// What follows the head: a feeding's input, or a parser.
+    pub following: &'a [u8],
 }
 
 /// The first command, and the script after it; none at the end of the script,
-/// at another letter, or if a feeding's input is cut short.
+/// at another letter, or if what follows the head is cut short.
 pub fn first_command(script: &[u8]) -> Option<(Command<'_>, &[u8])> {
     let (head, rest) = script.split_at_checked(5)?;
     let letter = head[0];
@@ -126,15 +158,16 @@ pub fn first_command(script: &[u8]) -> Option<(Command<'_>, &[u8])> {
     let b = u16::from_le_bytes([head[3], head[4]]);
     let length = match letter {
         b'F' => a as usize,
-        b'S' | b'L' | b'A' | b'R' | b'P' | b'T' | b'W' | b'B' => 0,
+        b'Q' => PARSER_BYTES,
+        b'S' | b'L' | b'A' | b'R' | b'P' | b'T' | b'W' | b'B' | b'V' => 0,
         _ => return None,
     };
-    let (input, rest) = rest.split_at_checked(length)?;
+    let (following, rest) = rest.split_at_checked(length)?;
     let command = Command {
         letter,
         a,
         b,
-        input,
+        following,
     };
     Some((command, rest))
 }
@@ -185,7 +218,7 @@ impl Machine {
             b'S' => {
                 self.lent = (b as usize).min(BUFFER_WORDS);
                 let page = &mut self.buffer[..self.lent];
-                let (answer, state) = start((a % 256) as usize, page);
+                let (answer, state) = start(a as usize, page);
                 self.state = state;
                 output.extend_from_slice(&[b'S', answer]);
             }
@@ -194,7 +227,7 @@ impl Machine {
                 let mut reply = vec![UNTOUCHED; (b as usize).min(MOST_ROOM)];
                 let page = &mut self.buffer[..self.lent];
                 let (answer, read, replied, state) =
-                    feed(&self.state, page, command.input, &mut reply);
+                    feed(&self.state, page, command.following, &mut reply);
                 self.state = state;
                 output.extend_from_slice(&[b'F', answer]);
                 output.extend_from_slice(&(read as u16).to_le_bytes());
@@ -237,6 +270,15 @@ impl Machine {
                 }
             }
             b'B' => self.set_field(a, b),
+            b'Q' => {
+                if let Some(given) = given_by(command.following) {
+                    self.state.parser = Parser::Given(given);
+                }
+            }
+            b'V' => {
+                output.push(b'V');
+                output.extend_from_slice(&view_of(&self.state));
+            }
             _ => {}
         }
     }
@@ -257,12 +299,73 @@ impl Machine {
             SAVED_ROW => state.saved.cursor.row = number,
             SAVED_COLUMN => state.saved.cursor.column = number,
             SAVED_WRAP_DUE => state.saved.cursor.wrap_due = flag,
+            SHOWN => state.cursor_shown = flag,
             CHANGED_ROW => {
                 state.changed.insert((value as usize + 63) % 64 + 1);
             }
             _ => {}
         }
     }
+}
+
+/// The parser in the bytes after the head of Q.
+fn given_by(bytes: &[u8]) -> Option<Given> {
+    let (head, rest) = bytes.split_first_chunk::<5>()?;
+    let mut values = [0; 16];
+    for (value, pair) in values.iter_mut().zip(rest.chunks_exact(2)) {
+        *value = u16::from_le_bytes([pair[0], pair[1]]);
+    }
+    Some(Given {
+        phase: head[0] % 11,
+        mark: head[1],
+        intermediates: [head[2], head[3]],
+        separators: head[4],
+        values,
+    })
+}
+
+/// The fields of a state as V writes them.
+fn view_of(state: &State) -> [u8; VIEW_BYTES] {
+    let rendition = |r: Rendition| [r.bold, r.underline, r.blink, r.reverse].map(u8::from);
+    let sets = |s: Sets| {
+        let [g0, g1, g2, g3] = [s.g0, s.g1, s.g2, s.g3].map(|set| set.number() as u8);
+        [g0, g1, g2, g3, s.gl as u8, s.gr as u8]
+    };
+    let modes = [
+        state.insert,
+        state.newline,
+        state.origin,
+        state.autowrap,
+        state.cursor_shown,
+        state.eight_bit_replies,
+    ];
+    let shift = match state.shift {
+        None => 0,
+        Some(Shift::G2) => 1,
+        Some(Shift::G3) => 2,
+    };
+    let saved = &state.saved;
+    let mut bytes = Vec::new();
+    bytes.push(state.rows as u8);
+    bytes.extend([state.cursor.row as u8, state.cursor.column as u8]);
+    bytes.push(state.cursor.wrap_due as u8);
+    bytes.extend([state.top as u8, state.bottom as u8]);
+    bytes.extend(modes.map(u8::from));
+    bytes.extend(rendition(state.rendition));
+    bytes.push(state.protection as u8);
+    bytes.extend(sets(state.sets));
+    bytes.push(shift);
+    bytes.extend([saved.cursor.row as u8, saved.cursor.column as u8]);
+    bytes.push(saved.cursor.wrap_due as u8);
+    bytes.extend(rendition(saved.rendition));
+    bytes.push(saved.origin as u8);
+    bytes.extend(sets(saved.sets));
+    for eight in state.tabs.chunks(8) {
+        bytes.push((0..8).map(|n| (eight[n] as u8) << n).sum());
+    }
+    let mut view = [0; VIEW_BYTES];
+    view.copy_from_slice(&bytes);
+    view
 }
 
 /// Carries out a script and returns what its commands wrote.
@@ -326,7 +429,7 @@ mod tests {
             s.read(1, 1);
             s.feed(b"\x1B[99;99H\x1B[6n", 8);
             s.ask();
-            // R is taken modulo 256.
+            // R is all 16 bits.
             s.start(256 + 24, 1920);
             s.start(24, 5000);
             s.page();
@@ -339,12 +442,13 @@ mod tests {
             b"R\0x\0",
             b"F\0\x0C\0\x08\0\x1B[24;80R",
             b"A\0\0\0\0\0\0\0\0\0\0",
-            b"S\0",
+            b"S\x01",
             b"S\x02",
             b"P",
         ]
         .concat();
-        expected.extend([0x20, 0].repeat(3840));
+        expected.extend([b'x', 0]);
+        expected.extend([0x20, 0].repeat(3839));
         expected.extend([0, 0].repeat(256));
         assert_eq!(output, expected);
     }
@@ -358,7 +462,6 @@ mod tests {
             s.feed(b"\x1B[6n", 7);
             // Broken: wrap due without autowrap. What is no field is left.
             s.field(WRAP_DUE, 2);
-            s.field(11, 1);
             s.field(13, 1);
             s.field(65535, 1);
             s.feed(b"x", 1);
@@ -409,5 +512,79 @@ mod tests {
         expected.extend((lines.len() as u16).to_le_bytes());
         expected.extend(lines.into_bytes());
         assert_eq!(output, expected);
+    }
+
+    #[test]
+    fn every_field_is_seen() {
+        let output = answered(|s| {
+            s.start_right(36);
+            s.view();
+            s.feed(b"\x1B[5;10r\x1B[?6;7h\x1B[4;20h\x1B[?25l\x1B G\x1B[1;5m", 0);
+            s.feed(b"\x1B[1\"q\x1B)0\x1B.A\x1B+B\x1Bo\x1B~\x1B[2;80Hx\x1B7", 0);
+            s.feed(b"\x1B[4;7;22;25m\x1B(%5\x0E\x1B|\x8F\x1B[3g\x1BH", 0);
+            s.view();
+            s.field(SHOWN, 2);
+            s.field(ROWS, 280);
+            s.field(SAVED_ROW, 255);
+            s.view();
+        });
+        let fresh = [
+            &[36, 1, 1, 0, 1, 36, 0, 0, 0, 0, 1, 0][..],
+            &[0, 0, 0, 0, 0, 0, 0, 2, 2, 0, 2, 0],
+            &[1, 1, 0, 0, 0, 0, 0, 0, 0, 0, 2, 2, 0, 2],
+            &[0, 1, 1, 1, 1, 1, 1, 1, 1, 1],
+        ]
+        .concat();
+        let mut after = [
+            &[36, 6, 80, 1, 5, 10, 1, 1, 1, 1, 0, 1][..],
+            &[0, 1, 0, 1, 1, 2, 1, 3, 0, 1, 3, 2],
+            &[6, 80, 1, 1, 0, 1, 0, 1, 0, 1, 3, 0, 3, 1],
+            &[0, 0, 0, 0, 0, 0, 0, 0, 0, 128],
+        ]
+        .concat();
+        let mut expected = [b"S\0V", &fresh[..]].concat();
+        for length in [36, 28, 26] {
+            expected.extend([b'F', 0, length, 0, 0, 0]);
+        }
+        expected.push(b'V');
+        expected.extend(&after);
+        after[VIEW_SHOWN] = 1;
+        after[0] = 24;
+        after[24] = 255;
+        expected.push(b'V');
+        expected.extend(&after);
+        assert_eq!(output, expected);
+    }
+
+    #[test]
+    fn a_parser_is_set() {
+        let mut values = [0; 16];
+        values[..3].copy_from_slice(&[5, 7, 0x2710]);
+        let given = Given {
+            phase: 11 + 6,
+            mark: 0,
+            intermediates: [0xFF; 2],
+            separators: 1,
+            values,
+        };
+        let output = answered(|s| {
+            s.start_right(24);
+            s.parser(&given);
+            s.feed(b"7H\x1B[6n", 8);
+            s.parser(&Given { mark: 1, ..given });
+            s.ask();
+            s.feed(b"x", 1);
+            s.parser(&Given { phase: 5, ..given });
+            s.ask();
+        });
+        let expected: [&[u8]; 6] = [
+            b"S\0",
+            b"F\0\x06\0\x07\0\x1B[5;77R\xEE",
+            b"A\x01\0\0\0\0\0\0\0\0\0",
+            b"F\x01\0\0\0\0\xEE",
+            b"A\0\0\0\0\0\0\0\0\0\0",
+            b"",
+        ];
+        assert_eq!(output, expected.concat());
     }
 }

@@ -1,4 +1,4 @@
-//! Cases at the edges, with expectations written by hand from document 01.
+//! Cases at the edges, with expectations written by hand from the scope paper.
 
 mod common;
 use common::Console;
@@ -206,6 +206,59 @@ fn what_is_not_whole() {
     let escape = |intermediates| Parser::Escape { intermediates };
     assert!(broken(&|s| s.parser = escape(vec![0x1F])));
     assert!(broken(&|s| s.parser = escape(vec![0x20; 3])));
+    // As a script gives it: in every phase.
+    for phase in 0..=10 {
+        let given = Given {
+            phase,
+            mark: 0,
+            intermediates: [0x20, 0x2F],
+            separators: 0,
+            values: [9999; 16],
+        };
+        let whole = |given: Given| !broken(&|s| s.parser = Parser::Given(given));
+        for mark in 0..=255 {
+            let good = mark == 0 || (0x3C..=0x3F).contains(&mark);
+            assert_eq!(whole(Given { mark, ..given }), good);
+        }
+        for separators in 0..=255 {
+            let good = separators <= 16;
+            assert_eq!(
+                whole(Given {
+                    separators,
+                    ..given
+                }),
+                good
+            );
+            for place in 0..16 {
+                let mut values = given.values;
+                values[place] = 10_000;
+                let good = good && place > separators as usize;
+                let given = Given {
+                    separators,
+                    values,
+                    ..given
+                };
+                assert_eq!(whole(given), good);
+            }
+        }
+        let counted = match phase {
+            2 | 7 => 1,
+            3 | 8 => 2,
+            _ => 0,
+        };
+        for byte in 0..=255 {
+            let good = (0x20..=0x2F).contains(&byte);
+            for place in 0..2 {
+                let mut intermediates = given.intermediates;
+                intermediates[place] = byte;
+                let given = Given {
+                    intermediates,
+                    ..given
+                };
+                assert_eq!(whole(given), good || place >= counted);
+            }
+        }
+    }
     // Changed rows.
     assert!(!broken(&|s| {
         s.changed.insert(24);

@@ -1,4 +1,4 @@
-//! Document 01's eleven examples.
+//! The eleven examples of SCOPE 11.
 
 mod common;
 use common::Console;
@@ -112,4 +112,32 @@ fn example_11() {
     let c = Console::fed(b"\x1B[c\x1B[5n\x1B[6n");
     assert_eq!(c.replies, b"\x1B[?64;6c\x1B[0n\x1B[1;1R");
     assert_eq!(c.replies.len(), 18);
+}
+
+// ---- The examples as text ----------------------------------------------------
+
+#[test]
+fn the_examples_in_text_are_met() {
+    if let Some(fault) = examples::fault() {
+        panic!("{fault}");
+    }
+}
+
+/// The list has every file, with its text.
+#[test]
+fn every_file_of_examples_is_there() {
+    let mut names = Vec::new();
+    for entry in std::fs::read_dir("../tests/examples").unwrap() {
+        let path = entry.unwrap().path();
+        if path.extension().is_some_and(|end| end == "test") {
+            names.push(path.file_stem().unwrap().to_str().unwrap().to_string());
+        }
+    }
+    names.sort();
+    let listed: Vec<&str> = examples::FILES.iter().map(|(name, _)| *name).collect();
+    assert_eq!(listed, names);
+    for (name, text) in examples::FILES {
+        let file = std::fs::read_to_string(format!("../tests/examples/{name}.test")).unwrap();
+        assert_eq!(text, file, "{name}");
+    }
 }

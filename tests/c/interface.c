@@ -31,6 +31,9 @@ static uint16_t *const page = words + GUARD;
 static uint8_t *const reply = reply_bytes + GUARD;
 static uint8_t *const text = text_bytes + GUARD;
 
+/* The numbers of rows that a page may have. */
+static const size_t sizes[] = { 24, 36, 48 };
+
 /* What the last feeding gave. */
 static size_t read_count, replied;
 
@@ -106,7 +109,7 @@ static int record_guards_are_left(void)
 
 /* ---- the calls, each on the guarded buffers */
 
-static uint8_t start(uint8_t rows, size_t cells)
+static uint8_t start(size_t rows, size_t cells)
 {
     uint8_t answer = pankholim_start(&record.terminal, rows, page, cells);
 
@@ -115,10 +118,10 @@ static uint8_t start(uint8_t rows, size_t cells)
     return answer;
 }
 
-static void start_well(uint8_t rows)
+static void start_well(size_t rows)
 {
     set_up();
-    CHECK(start(rows, PANKHOLIM_CELLS((size_t)rows)) == PANKHOLIM_DONE);
+    CHECK(start(rows, PANKHOLIM_CELLS(rows)) == PANKHOLIM_DONE);
 }
 
 static uint8_t feed_bytes(size_t cells, const void *input, size_t length, size_t room)
@@ -189,56 +192,84 @@ static int all_blank(size_t cells)
     return 1;
 }
 
-/* The record is that of a fresh terminal of 24 rows, as far as calls can show. */
-static void check_fresh_24(void)
+/* A start that must be refused: it leaves all that it was lent. */
+static void check_refused_start(size_t rows, size_t cells, uint8_t answer)
 {
-    CHECK(asks(0, 0));
-    CHECK(feed(PANKHOLIM_CELLS(24), "\033[6n", 11) == PANKHOLIM_DONE && replied_is("\033[1;1R"));
-    CHECK(feed(PANKHOLIM_CELLS(24), "\033[99;99H\033[6n", 11) == PANKHOLIM_DONE && replied_is("\033[24;80R"));
-    CHECK(feed(PANKHOLIM_CELLS(36), "", 11) == PANKHOLIM_WRONG_SIZE);
+    pankholim_terminal before = record.terminal;
+
+    CHECK(start(rows, cells) == answer);
+    CHECK(page_is_left(0));
+    CHECK(memcmp(&before, &record.terminal, sizeof before) == 0);
 }
 
 static void test_start(void)
 {
-    unsigned rows;
+    size_t rows;
 
-    for (rows = 0; rows <= 255; rows++) {
-        int good = rows == 24 || rows == 36 || rows == 48;
-        size_t cells = good ? PANKHOLIM_CELLS(rows) : 1920;
-
+    for (rows = 0; rows <= 1024; rows++) {
         set_up();
-        memset(&record.terminal, rows % 2, sizeof record.terminal);
-        CHECK(start((uint8_t)rows, cells) == (good ? PANKHOLIM_DONE : PANKHOLIM_BROKEN));
-        if (good) {
-            CHECK(all_blank(cells));
+        memset(&record.terminal, rows % 2 == 0 ? 0 : BYTE_GUARD, sizeof record.terminal);
+        if (rows == 24 || rows == 36 || rows == 48) {
+            CHECK(start(rows, PANKHOLIM_CELLS(rows)) == PANKHOLIM_DONE);
+            CHECK(all_blank(PANKHOLIM_CELLS(rows)));
             CHECK(asks(0, 0));
         } else {
-            CHECK(page_is_left(0));
-            check_fresh_24();
+            check_refused_start(rows, 1920, PANKHOLIM_BROKEN);
         }
     }
 }
 
+/* No number is taken for its lowest bits. */
+static void test_start_with_many_rows(void)
+{
+    size_t i;
+    unsigned bit;
+
+    for (i = 0; i < 3; i++)
+        for (bit = 8; bit < 64; bit++) {
+            set_up();
+            check_refused_start(sizes[i] + ((size_t)1 << bit), PANKHOLIM_CELLS(sizes[i]), PANKHOLIM_BROKEN);
+        }
+    check_refused_start(280, 1920, PANKHOLIM_BROKEN);
+    check_refused_start(65560, 1920, PANKHOLIM_BROKEN);
+    check_refused_start(4294967320u, 1920, PANKHOLIM_BROKEN);
+    check_refused_start((size_t)-1, 1920, PANKHOLIM_BROKEN);
+}
+
 static void test_start_on_wrong_pages(void)
 {
-    static const size_t lengths[] = { 0, 1, 79, 80, 1919, 1921, 2000, 2879, 2880, 3839, 3840, 4000 };
-    static const uint8_t good[] = { 24, 36, 48 };
+    static const size_t lengths[] = { 0, 1, 79, 80, 1919, 1920, 1921, 2000, 2879, 2880, 3839, 3840, 4000 };
     size_t i, j;
 
-    for (i = 0; i < sizeof good; i++)
+    for (i = 0; i < 3; i++)
         for (j = 0; j < sizeof lengths / sizeof lengths[0]; j++) {
-            if (lengths[j] == PANKHOLIM_CELLS((size_t)good[i]))
+            if (lengths[j] == PANKHOLIM_CELLS(sizes[i]))
                 continue;
             set_up();
-            CHECK(start(good[i], lengths[j]) == PANKHOLIM_WRONG_SIZE);
-            CHECK(page_is_left(0));
-            check_fresh_24();
+            check_refused_start(sizes[i], lengths[j], PANKHOLIM_WRONG_SIZE);
         }
     /* With both wrong, 1 comes first. */
     set_up();
-    CHECK(start(25, 0) == PANKHOLIM_BROKEN);
-    CHECK(start(0, 0) == PANKHOLIM_BROKEN);
-    CHECK(start(255, 4000) == PANKHOLIM_BROKEN);
+    check_refused_start(25, 0, PANKHOLIM_BROKEN);
+    check_refused_start(0, 0, PANKHOLIM_BROKEN);
+    check_refused_start(255, 4000, PANKHOLIM_BROKEN);
+}
+
+/* A terminal goes on where it was after refused starts. */
+static void test_refused_starts_of_a_terminal(void)
+{
+    static uint16_t other[80];
+    pankholim_terminal before;
+
+    start_well(36);
+    CHECK(feed(2880, "Hi\033[5", 0) == PANKHOLIM_DONE);
+    before = record.terminal;
+    CHECK(pankholim_start(&record.terminal, 25, other, 80) == PANKHOLIM_BROKEN);
+    CHECK(pankholim_start(&record.terminal, 24, other, 80) == PANKHOLIM_WRONG_SIZE);
+    CHECK(start(24, 2880) == PANKHOLIM_WRONG_SIZE);
+    CHECK(memcmp(&before, &record.terminal, sizeof before) == 0);
+    CHECK(feed(2880, "n!", 4) == PANKHOLIM_DONE && replied_is("\033[0n"));
+    CHECK(reads(2880, 1, 2, 'i') && reads(2880, 1, 3, '!') && asks(1, 1));
 }
 
 /* ---- refusals */
@@ -393,7 +424,6 @@ static void test_example_11(void)
 
 static void test_ask(void)
 {
-    static const uint8_t good[] = { 24, 36, 48 };
     size_t i;
 
     start_well(24);
@@ -403,10 +433,10 @@ static void test_ask(void)
     CHECK(feed(1920, "\033[24H\n", 0) == PANKHOLIM_DONE && asks(1, 1));
     CHECK(feed(1920, "\033[?7h\033[24HA\033[24;80H ", 0) == PANKHOLIM_DONE && asks((uint64_t)1 << 23, 1));
     CHECK(feed(1920, "A", 0) == PANKHOLIM_DONE && asks((uint64_t)3 << 22, 2));
-    for (i = 0; i < sizeof good; i++) {
-        start_well(good[i]);
-        CHECK(feed(PANKHOLIM_CELLS((size_t)good[i]), "\033#8", 0) == PANKHOLIM_DONE);
-        CHECK(asks(((uint64_t)1 << good[i]) - 1, good[i]));
+    for (i = 0; i < 3; i++) {
+        start_well(sizes[i]);
+        CHECK(feed(PANKHOLIM_CELLS(sizes[i]), "\033#8", 0) == PANKHOLIM_DONE);
+        CHECK(asks(((uint64_t)1 << sizes[i]) - 1, (uint32_t)sizes[i]));
     }
 }
 
@@ -535,6 +565,88 @@ static void test_copies(void)
     CHECK(page[PANKHOLIM_INDEX(3, 77)] == ' ' && other_page[PANKHOLIM_INDEX(3, 7)] == ' ');
 }
 
+/* ---- a record's bytes are determined by its state */
+
+enum { UNUSED = 93, RECORD = 96 };
+
+/* Fills the stack below the caller, so that a byte which a call forgets to write is seen. */
+static void fill_stack(int byte)
+{
+    uint8_t bytes[4096];
+    volatile uint8_t *at = bytes;
+    size_t i;
+
+    for (i = 0; i < sizeof bytes; i++)
+        at[i] = (uint8_t)byte;
+}
+
+static void set_unused(uint8_t byte)
+{
+    memset((uint8_t *)&record.terminal + UNUSED, byte, RECORD - UNUSED);
+}
+
+static int unused_is(uint8_t byte)
+{
+    const uint8_t *bytes = (const uint8_t *)&record.terminal;
+
+    return bytes[UNUSED] == byte && bytes[UNUSED + 1] == byte && bytes[UNUSED + 2] == byte;
+}
+
+/* Starts a record that held `byte`, feeds and asks, on a stack filled with `byte`; at once, or in two calls of each. */
+static pankholim_terminal record_after(int byte, int at_once)
+{
+    uint64_t rows;
+    uint32_t count;
+
+    set_up();
+    memset(&record.terminal, byte, sizeof record.terminal);
+    fill_stack(byte);
+    CHECK(start(24, 1920) == PANKHOLIM_DONE && unused_is(0));
+    fill_stack(byte);
+    CHECK(feed(1920, at_once ? "Hi\033[3;7" : "Hi\033[", 0) == PANKHOLIM_DONE && unused_is(0));
+    fill_stack(byte);
+    if (!at_once)
+        CHECK(feed(1920, "3;7", 0) == PANKHOLIM_DONE && unused_is(0));
+    fill_stack(byte);
+    CHECK(ask(&rows, &count) == PANKHOLIM_DONE && rows == 1 && count == 1 && unused_is(0));
+    fill_stack(byte);
+    if (!at_once)
+        CHECK(asks(0, 0) && unused_is(0));
+    return record.terminal;
+}
+
+static void test_bytes_of_a_record(void)
+{
+    pankholim_terminal first = record_after(0, 1);
+    int byte;
+
+    CHECK(sizeof first == RECORD);
+    for (byte = 0; byte < 256; byte++) {
+        pankholim_terminal whole = record_after(byte, 1), parts = record_after(byte, 0);
+
+        CHECK(memcmp(&first, &whole, sizeof first) == 0 && memcmp(&first, &parts, sizeof first) == 0);
+    }
+}
+
+/* The unused bytes are not looked at: kept by a refusal, and 0 after a call that is none. */
+static void test_unused_bytes(void)
+{
+    unsigned byte;
+
+    for (byte = 0; byte < 256; byte++) {
+        start_well(24);
+        set_unused((uint8_t)byte);
+        CHECK(feed(1921, "A", 0) == PANKHOLIM_WRONG_SIZE && unused_is((uint8_t)byte));
+        CHECK(start(25, 1920) == PANKHOLIM_BROKEN && unused_is((uint8_t)byte));
+        CHECK(reads(1920, 1, 1, PANKHOLIM_BLANK) && unused_is((uint8_t)byte));
+        CHECK(feed(1920, "", 0) == PANKHOLIM_DONE && unused_is(0));
+        set_unused((uint8_t)byte);
+        CHECK(feed(1920, "A\033[6n", 5) == PANKHOLIM_NO_ROOM && unused_is(0));
+        set_unused((uint8_t)byte);
+        CHECK(asks(1, 1) && unused_is(0));
+    }
+}
+
 /* ---- streams of random bytes, cut anywhere, with any room */
 
 /* A byte of a stream: often part of a sequence. */
@@ -551,12 +663,13 @@ struct seen {
     size_t length;
     uint16_t page[PANKHOLIM_CELLS(48)];
     uint64_t changed;
+    pankholim_terminal record;
 };
 
 /* Feeds one piece, and returns how much of it was read. */
-static size_t feed_piece(uint8_t rows, const uint8_t *input, size_t length, size_t room, struct seen *seen)
+static size_t feed_piece(size_t rows, const uint8_t *input, size_t length, size_t room, struct seen *seen)
 {
-    uint8_t answer = feed_bytes(PANKHOLIM_CELLS((size_t)rows), input, length, room);
+    uint8_t answer = feed_bytes(PANKHOLIM_CELLS(rows), input, length, room);
     uint64_t more;
     uint32_t count;
 
@@ -570,7 +683,7 @@ static size_t feed_piece(uint8_t rows, const uint8_t *input, size_t length, size
 }
 
 /* Feeds a stream to a fresh terminal, at once with all room or in pieces with little. */
-static void feed_stream(uint8_t rows, const uint8_t *stream, size_t length, int in_pieces, struct seen *seen)
+static void feed_stream(size_t rows, const uint8_t *stream, size_t length, int in_pieces, struct seen *seen)
 {
     size_t at = 0;
 
@@ -582,19 +695,19 @@ static void feed_stream(uint8_t rows, const uint8_t *stream, size_t length, int 
 
         at += feed_piece(rows, stream + at, piece < length - at ? piece : length - at, room, seen);
     }
-    memcpy(seen->page, page, PANKHOLIM_CELLS((size_t)rows) * sizeof(uint16_t));
+    memcpy(seen->page, page, PANKHOLIM_CELLS(rows) * sizeof(uint16_t));
+    seen->record = record.terminal;
 }
 
 static void test_streams(void)
 {
-    static const uint8_t good[] = { 24, 36, 48 };
     static uint8_t stream[1000];
     static struct seen whole, parts;
     unsigned round;
     size_t i;
 
     for (round = 0; round < 300; round++) {
-        uint8_t rows = good[round % 3];
+        size_t rows = sizes[round % 3];
 
         for (i = 0; i < sizeof stream; i++)
             stream[i] = random_byte();
@@ -603,6 +716,7 @@ static void test_streams(void)
         CHECK(whole.length == parts.length && memcmp(whole.sent, parts.sent, whole.length) == 0);
         CHECK(memcmp(whole.page, parts.page, sizeof whole.page) == 0);
         CHECK(whole.changed == parts.changed);
+        CHECK(memcmp(&whole.record, &parts.record, sizeof whole.record) == 0);
     }
 }
 
@@ -661,7 +775,9 @@ int main(int argc, char **argv)
         return 2;
     }
     test_start();
+    test_start_with_many_rows();
     test_start_on_wrong_pages();
+    test_refused_starts_of_a_terminal();
     test_broken_records();
     test_records_of_any_bytes();
     test_wrong_pages();
@@ -674,6 +790,8 @@ int main(int argc, char **argv)
     test_text();
     test_text_of_every_word();
     test_copies();
+    test_bytes_of_a_record();
+    test_unused_bytes();
     test_streams();
     for (i = 1; i < argc; i++)
         test_capture(argv[i]);

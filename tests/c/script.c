@@ -42,12 +42,23 @@ static size_t at_most(size_t most, unsigned number)
     return number < most ? number : most;
 }
 
+/* What a refused start returns in the script is the fresh state of 24 rows; the record's leaves the record. */
+static void make_fresh(void)
+{
+    static uint16_t page[PANKHOLIM_CELLS(24)];
+
+    if (pankholim_start(&terminal, 24, page, PANKHOLIM_CELLS(24)) != PANKHOLIM_DONE)
+        exit(1);
+}
+
 static void start(unsigned rows, unsigned words)
 {
     uint8_t answer;
 
     lent = at_most(BUFFER_WORDS, words);
-    answer = pankholim_start(&terminal, (uint8_t)(rows % 256), buffer, lent);
+    answer = pankholim_start(&terminal, rows, buffer, lent);
+    if (answer != PANKHOLIM_DONE)
+        make_fresh();
     putchar('S');
     putchar(answer);
 }
@@ -115,8 +126,11 @@ static void put_text(void)
     put_bytes(text, length);
 }
 
-/* Where the script's fields lie in the record (crates/pankholim/src/record.rt), and which are flags. Only a test
- * that breaks records needs this. */
+/* ---- the record's bytes (crates/pankholim/src/record.rt), which only a test that breaks records needs */
+
+enum { VALUES = 8, TABS = 40, PARSER = 88 };
+
+/* Where the script's fields lie, and which are flags. */
 static const struct {
     unsigned field;
     size_t at;
@@ -127,6 +141,7 @@ static const struct {
     { 4, 51, 0 }, { 5, 52, 0 },                             /* T and B */
     { 6, 60, 1 }, { 7, 61, 1 },                             /* origin and autowrap */
     { 8, 74, 0 }, { 9, 75, 0 }, { 10, 76, 1 },              /* the saved row, column and wrap due */
+    { 11, 62, 1 },                                          /* cursor shown */
 };
 
 static void set_field(unsigned field, unsigned value)
@@ -142,6 +157,47 @@ static void set_field(unsigned field, unsigned value)
         terminal.opaque[0] |= (uint64_t)1 << (value + 63) % 64;
 }
 
+/* Is there a whole parser? The script's numbers are lowest byte first, and so are the record's, on x86-64. */
+static int set_parser(void)
+{
+    uint8_t *record = (uint8_t *)&terminal;
+    uint8_t parser[5], values[32];
+
+    if (fread(parser, 1, sizeof parser, stdin) != sizeof parser
+        || fread(values, 1, sizeof values, stdin) != sizeof values)
+        return 0;
+    parser[0] = (uint8_t)(parser[0] % 11);
+    memcpy(record + PARSER, parser, sizeof parser);
+    memcpy(record + VALUES, values, sizeof values);
+    return 1;
+}
+
+/* The state without parser and changed rows, in the script's order: places in the record, both inside. */
+static const struct {
+    size_t first, last;
+} shown[] = {
+    { 50, 50 },             /* R */
+    { 55, 57 },             /* the cursor's row, column and wrap due */
+    { 51, 52 },             /* T and B */
+    { 58, 63 },             /* the modes */
+    { 64, 67 },             /* the rendition */
+    { 53, 53 },             /* protection */
+    { 68, 73 },             /* G0 to G3, GL, GR */
+    { 54, 54 },             /* the pending shift */
+    { 74, 87 },             /* what is saved */
+    { TABS, TABS + 9 },     /* tab flags */
+};
+
+static void put_state(void)
+{
+    const uint8_t *record = (const uint8_t *)&terminal;
+    size_t i;
+
+    putchar('V');
+    for (i = 0; i < sizeof shown / sizeof shown[0]; i++)
+        put_bytes(record + shown[i].first, shown[i].last - shown[i].first + 1);
+}
+
 /* Carries out a command; 0 at the script's end. */
 static int carry_out(uint8_t letter, unsigned a, unsigned b)
 {
@@ -155,6 +211,8 @@ static int carry_out(uint8_t letter, unsigned a, unsigned b)
     case 'T': put_text(); return 1;
     case 'W': if (a < BUFFER_WORDS) buffer[a] = (uint16_t)b; return 1;
     case 'B': set_field(a, b); return 1;
+    case 'Q': return set_parser();
+    case 'V': put_state(); return 1;
     default: return 0;
     }
 }
@@ -163,8 +221,7 @@ int main(void)
 {
     uint8_t head[5];
 
-    /* Refused: the buffer is no page of 24 rows. */
-    pankholim_start(&terminal, 24, buffer, BUFFER_WORDS);
+    make_fresh();
     while (fread(head, 1, sizeof head, stdin) == sizeof head
            && carry_out(head[0], head[1] + 256u * head[2], head[3] + 256u * head[4]))
         ;

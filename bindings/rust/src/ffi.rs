@@ -1,6 +1,6 @@
 //! The functions of `include/pankholim.h`.
 
-/// As `pankholim_terminal`: all zero bytes, or what a start wrote.
+/// As `pankholim_terminal`. Any bytes are safe.
 #[repr(C)]
 #[derive(Clone)]
 pub struct Terminal {
@@ -8,7 +8,12 @@ pub struct Terminal {
 }
 
 extern "C" {
-    pub fn pankholim_start(terminal: *mut Terminal, rows: u8, page: *mut u16, cells: usize) -> u8;
+    pub fn pankholim_start(
+        terminal: *mut Terminal,
+        rows: usize,
+        page: *mut u16,
+        cells: usize,
+    ) -> u8;
 
     pub fn pankholim_feed(
         terminal: *mut Terminal,

@@ -25,20 +25,16 @@ impl PageSize {
 
     /// How many rows the page has.
     pub const fn rows(self) -> usize {
-        self.number() as usize
-    }
-
-    /// How many cells the page has.
-    pub const fn cells(self) -> usize {
-        COLUMNS * self.rows()
-    }
-
-    pub(crate) const fn number(self) -> u8 {
         match self {
             PageSize::Rows24 => 24,
             PageSize::Rows36 => 36,
             PageSize::Rows48 => 48,
         }
+    }
+
+    /// How many cells the page has.
+    pub const fn cells(self) -> usize {
+        COLUMNS * self.rows()
     }
 }
 

@@ -13,7 +13,7 @@ pub const REPLY_ROOM: usize = 11;
 /// All of a terminal that lasts between two calls, but its page, which the caller lends at each call.
 ///
 /// It is plain data: a clone is a terminal of its own, for a copy of the page, and its bytes may be kept and
-/// brought back.
+/// brought back. What an unrefused call leaves are the same bytes wherever the state is the same.
 ///
 /// ```
 /// use pankholim::{Answer, Record, Refusal};
@@ -64,11 +64,17 @@ impl Record {
     /// Starts a terminal with `rows` rows: 24, 36 or 48, with a page of 80 cells for each. Every cell becomes
     /// blank. Refused with `Broken` where there is no page of so many rows, with `WrongSize` where the page
     /// has another length; then the page is left.
-    pub fn start(rows: u8, page: &mut [u16]) -> Result<Record, Refusal> {
+    pub fn start(rows: usize, page: &mut [u16]) -> Result<Record, Refusal> {
         let mut record = Record::default();
+        record.restart(rows, page).map(|_| record)
+    }
+
+    /// Starts this record anew, whatever it was: see [`start`](Record::start). Refused, record and page are
+    /// left, and the terminal goes on where it was.
+    pub fn restart(&mut self, rows: usize, page: &mut [u16]) -> Result<(), Refusal> {
         let number =
-            unsafe { ffi::pankholim_start(&mut record.raw, rows, page.as_mut_ptr(), page.len()) };
-        Answer::of_call(number).map(|_| record)
+            unsafe { ffi::pankholim_start(&mut self.raw, rows, page.as_mut_ptr(), page.len()) };
+        Answer::of_call(number).map(|_| ())
     }
 
     /// A record from bytes that [`to_bytes`](Record::to_bytes) gave. Any others are safe as well: a record that

@@ -30,7 +30,7 @@ impl Terminal {
     /// A fresh terminal: every cell blank, the cursor in row 1, column 1.
     pub fn new(size: PageSize) -> Terminal {
         let mut page = vec![0; size.cells()].into_boxed_slice();
-        let record = Record::start(size.number(), &mut page).expect(WHOLE);
+        let record = Record::start(size.rows(), &mut page).expect(WHOLE);
         Terminal { record, page, size }
     }
 

@@ -5,7 +5,8 @@ use pankholim::{Answer, Cell, PageSize, Record, Refusal, RowSet, Terminal, TextR
 
 #[test]
 fn starts() {
-    for rows in 0..=255 {
+    let past_a_byte = [280, 292, 304, 65_560, (1 << 32) + 24, usize::MAX];
+    for rows in (0..=255).chain(past_a_byte) {
         let mut page = [0x1234; 48 * 80];
         for cells in [0, 80, 1919, 1920, 1921, 2880, 3840] {
             let page = &mut page[..cells];
@@ -13,7 +14,7 @@ fn starts() {
             let started = Record::start(rows, page);
             if ![24, 36, 48].contains(&rows) {
                 assert_eq!(started.err(), Some(Refusal::Broken));
-            } else if cells != 80 * usize::from(rows) {
+            } else if cells != 80 * rows {
                 assert_eq!(started.err(), Some(Refusal::WrongSize));
             } else {
                 assert!(started.is_ok());
@@ -23,6 +24,57 @@ fn starts() {
             assert!(page.iter().all(|&word| word == 0x1234));
         }
     }
+}
+
+#[test]
+fn refused_starts_leave_the_record() {
+    let mut page = [0; 1920];
+    let mut record = Record::start(24, &mut page).unwrap();
+    record.feed(&mut page, b"Hi\x1b[5", &mut []).unwrap();
+    let before = (record.to_bytes(), page);
+    for (rows, cells) in [(25, 1920), (280, 1920), (24, 1919), (36, 1920), (0, 0)] {
+        assert!(record.restart(rows, &mut page[..cells]).is_err());
+        assert_eq!((record.to_bytes(), page), before);
+    }
+    let mut reply = [0; 4];
+    record.feed(&mut page, b"n!", &mut reply).unwrap();
+    assert_eq!(&reply, b"\x1b[0n");
+    assert_eq!(record.read(&page, 1, 3).map(Cell::code), Ok(b'!'));
+
+    let mut fresh = [0; 1920];
+    record.restart(24, &mut page).unwrap();
+    let other = Record::start(24, &mut fresh).unwrap();
+    assert_eq!((record.to_bytes(), page), (other.to_bytes(), fresh));
+
+    let any = [0xA5; Record::SIZE];
+    let mut record = Record::from_bytes(any);
+    assert_eq!(record.restart(25, &mut page), Err(Refusal::Broken));
+    assert_eq!(record.to_bytes(), any);
+}
+
+#[test]
+fn bytes_are_determined_by_the_state() {
+    let mut page = [0; 1920];
+    let mut whole = Record::start(24, &mut page).unwrap();
+    whole.feed(&mut page, b"Hi\x1b[3;7", &mut []).unwrap();
+    whole.ask().unwrap();
+
+    let mut parts = Record::from_bytes([0xA5; Record::SIZE]);
+    parts.restart(24, &mut page).unwrap();
+    for byte in b"Hi\x1b[3;7" {
+        parts.feed(&mut page, &[*byte], &mut []).unwrap();
+        parts.ask().unwrap();
+    }
+    assert_eq!(parts.to_bytes(), whole.to_bytes());
+
+    // The last three bytes are unused: not looked at, and 0 after a call that is not refused.
+    let mut bytes = whole.to_bytes();
+    bytes[93..].fill(0xA5);
+    let mut record = Record::from_bytes(bytes);
+    assert_eq!(record.feed(&mut [], b"", &mut []), Err(Refusal::WrongSize));
+    assert_eq!(record.to_bytes(), bytes);
+    record.feed(&mut page, b"", &mut []).unwrap();
+    assert_eq!(record.to_bytes(), whole.to_bytes());
 }
 
 #[test]
@@ -87,7 +139,7 @@ fn records_come_back_from_their_bytes() {
 fn pages_of_other_lengths() {
     for size in PageSize::ALL {
         let mut page = vec![0; size.cells()];
-        let mut record = Record::start(size.rows() as u8, &mut page).unwrap();
+        let mut record = Record::start(size.rows(), &mut page).unwrap();
         for cells in [0, 1, 80, 1919, 1920, 1921, 2880, 3840, 4000] {
             if cells == size.cells() {
                 continue;

@@ -7,7 +7,7 @@ use native.Mathlib.Omega.{arith}
 use lib.ListN.{length, getD}
 use Rattle.cells.specs.declared.Edit.{Edit}
 use Rattle.cells.specs.declared.Edit.the-variants.{Keep}
-use Rattle.cells.specs.Rows.{row, differs}
+use Rattle.cells.specs.Rows.{row}
 use Rattle.cells.specs.Sets.{changed}
 use Rattle.cells.specs.Edits.{after, applied, target, Within}
 use Rattle.cells.proofs.Lists.{differs-none, differs-some, differs-apart}

@@ -1,10 +1,12 @@
 pub mod Lists
 pub mod Writing
 pub mod WordLaws
+pub mod CellLaws
 pub mod BitLaws
 pub mod Parts
 pub mod RowLaws
 pub mod EditLaws
+pub mod EnteringLaws
 pub mod ChangeLaws
 pub mod Redoing
 pub mod Storing

@@ -1,15 +1,14 @@
 -- Laws of lists of words: what a paste puts and what it leaves, and when two lists differ.
 use mathlib.Core.Path.{_≡_, refl, sym, ap, ap₂, _∙_}
-use mathlib.Core.Bool.{Bool, true, false, not, _||_, false≢true, or-false, or-assoc}
+use mathlib.Core.Bool.{Bool, true, false, not, _||_, false≢true, or-assoc}
 use mathlib.Core.List.{List, [], _∷_, _++_, map, append-assoc, append-nil}
 use mathlib.Core.Logic.{_⊎_, inl, inr, ⊎-elim}
 use Prim.Native.Nat.{ℕ, zero, suc, _+_, _-_, _≤_, _<_}
 use native.Mathlib.Nat.{zero-add, le-of-eq}
-use native.Mathlib.Numerals.{add-one}
 use native.Mathlib.Omega.{arith}
 use lib.Dec.{eqb, leb, ltb}
 use lib.ListN.{length, getD, take, drop, replicate, length-take, length-replicate, List·getD-append}
-use lib.Seq.{paste, drop-paste, getD-drop, getD-take, getD-append-add, take-suc, take-all, drop-length}
+use lib.Seq.{paste, drop-paste, getD-drop, getD-take, getD-append-add, take-all, drop-length}
 use borrow.Author.Tests.{eq-eqb, leb-true, leb-false, ltb-true, ltb-false, eqb-true, eqb-false}
 use Rattle.cells.specs.Rows.{differs}
 

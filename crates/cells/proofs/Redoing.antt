@@ -13,7 +13,7 @@ use borrow.Author.Tests.{eq-eqb, ne-eqb}
 use Rattle.cells.specs.Cells.{bit}
 use Rattle.cells.specs.Rows.{row, differs}
 use Rattle.cells.specs.declared.Edit.{Edit}
-use Rattle.cells.specs.Edits.{overlaid, after}
+use Rattle.cells.specs.Edits.{overlaid}
 use Rattle.cells.specs.Writes.{Pasted, Redone, Edited, BlockFits, Fits, Applied}
 use Rattle.cells.proofs.Lists.{split-lt, split-eq, paste-outside, paste-inside, differs-self, differs-append, take-map}
 use Rattle.cells.proofs.Parts.{length-row}

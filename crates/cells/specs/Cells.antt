@@ -1,8 +1,9 @@
--- Cell words (document 01, "The page and the state"): a cell is a code, a set and five flags, packed into 16 bits.
+-- Cell words (SCOPE 1.2 to 1.6): a cell is a code, a set and five flags, packed into 16 bits.
 -- Bits 0 to 6 are the code, 7 and 8 the set, 9 to 13 bold, underline, blink, reverse and protected. Bits 14 and 15 are unused.
-use mathlib.Core.Bool.{Bool, true, false, cond}
-use Prim.Native.Nat.{ℕ, _+_, _*_, _/_, _%_}
-use lib.Dec.{eqb}
+use mathlib.Core.Path.{_≡_}
+use mathlib.Core.Bool.{Bool, true, false, cond, _&&_, _||_}
+use Prim.Native.Nat.{ℕ, _+_, _*_, _/_, _%_, _^_, _<_}
+use lib.Dec.{eqb, leb}
 use Rattle.cells.specs.declared.CharSet.{CharSet}
 use Rattle.cells.specs.declared.CharSet.the-variants.{Ascii, SpecialGraphics, Supplemental, Latin1}
 use Rattle.cells.specs.declared.Rendition.{Rendition}
@@ -64,3 +65,17 @@ spaced w = packed (record { code = 0x20; set = Ascii; rendition = unpacked w .re
 -- selective erase skips a protected cell
 unfoldable pub selectivelyErased : ℕ → ℕ
 selectivelyErased w = cond (unpacked w .protected) w (spaced w)
+
+-- ---- what bytes put into cells
+
+-- the codes that a cell of each set holds: its signs, and of ASCII the space and 1A, which SUB puts
+abbrev pub hasSign : CharSet → ℕ → Bool
+hasSign Ascii x = (leb 0x20 x && leb x 0x7E) || eqb x 0x1A
+hasSign SpecialGraphics x = leb 0x21 x && leb x 0x7E
+hasSign Supplemental x = leb 0x21 x && leb x 0x7E
+hasSign Latin1 x = leb 0x20 x && leb x 0x7F
+
+-- a word with such a code and no unused bit
+pub record Printable (w : ℕ) : Type 0 where
+  pub code : hasSign (unpacked w .set) (unpacked w .code) ≡ true
+  pub unused : w < 2 ^ 14

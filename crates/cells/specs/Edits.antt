@@ -1,6 +1,6 @@
 -- What an edit makes of a page: each row after it, by the rows before it.
 use mathlib.Core.Bool.{Bool, true, false, cond, _&&_}
-use mathlib.Core.List.{List, [], _∷_, _++_, map}
+use mathlib.Core.List.{List, _++_, map}
 use Prim.Native.Nat.{ℕ, _+_, _-_, _*_, _≤_, _<_, min}
 use lib.Dec.{eqb, leb, ltb}
 use lib.ListN.{take, drop, set, replicate}
@@ -70,6 +70,17 @@ target (ScrollUp t e a z n) k j = between t e k && between a z j
 target (ScrollDown t e a z n) k j = between t e k && between a z j
 target (Fill a z w) k j = between a z (80 * k + j)
 target (SelectiveErase a z) k j = between a z (80 * k + j)
+
+-- the word that it brings in; blank where that is a blank or none
+abbrev pub entering : Edit → ℕ
+entering Keep = blank
+entering (Put r c w) = w
+entering (InsertCells r c e n w) = w
+entering (DeleteCells r c e n) = blank
+entering (ScrollUp t e a z n) = blank
+entering (ScrollDown t e a z n) = blank
+entering (Fill a z w) = w
+entering (SelectiveErase a z) = blank
 
 -- no edit at all
 abbrev pub isKeep : Edit → Bool

@@ -27,3 +27,8 @@ abbrev pub differs : List ℕ → List ℕ → Bool
 differs [] ys = false
 differs (x ∷ xs) [] = true
 differs (x ∷ xs) (y ∷ ys) = not (eqb x y) || differs xs ys
+
+-- every word of a list has a property
+abbrev pub Every : (ℕ → Type 0) → List ℕ → Type 0
+Every P [] = Unit {0}
+Every P (x ∷ xs) = P x × Every P xs

@@ -1,5 +1,6 @@
--- Control sequences (document 01, "Functions"). An intermediate or a mark that is not there is 0. Wrap due is in WrapDue.antt.
-use mathlib.Core.Bool.{Bool, true, false, cond, _&&_, _||_}
+-- Control sequences (SCOPE 5.23 to 5.46), where they are not ignored: dispatch/specs/Heard.antt says what is. Wrap due is in WrapDue.antt
+-- there. An intermediate or a mark that is not there is 0.
+use mathlib.Core.Bool.{Bool, true, false, cond, _||_}
 use mathlib.Core.List.{List, [], _∷_}
 use Prim.Native.Nat.{ℕ, _+_, _-_, _*_, min, max}
 use lib.Dec.{eqb, leb, ltb}
@@ -51,7 +52,7 @@ cursorPosition c q = quiet (withCursor c (place (rowAt c (paramN q)) (min (max 1
 abbrev pub erased : Core → ℕ → ℕ → ℕ → (ℕ → ℕ → Edit) → Decision
 erased c s base end edit =
     let at = offset (c .cursor) in
-    cond (leb s 2) (only c (edit (cond (eqb s 0) at base) (cond (eqb s 1) (at + 1) end))) (quiet c)
+    only c (edit (cond (eqb s 0) at base) (cond (eqb s 1) (at + 1) end))
 
 abbrev pub toBlank : ℕ → ℕ → Edit
 toBlank a z = Fill a z blank
@@ -77,9 +78,6 @@ eraseCharacters c q =
 
 -- ---- inserting and deleting
 
-abbrev pub insideMargins : Core → Bool
-insideMargins c = leb (c .margins .top) (c .cursor .row) && leb (c .cursor .row) (c .margins .bottom)
-
 -- how many rows there are from the cursor's to B, and how many cells from the cursor's to the row's end
 abbrev pub rowsBelow : Core → ℕ
 rowsBelow c = c .margins .bottom - (c .cursor .row - 1)
@@ -90,28 +88,18 @@ cellsRight c = 80 - (c .cursor .column - 1)
 -- L (IL), M (DL): n rows, and column 1
 abbrev pub insertLines : Core → Params → Decision
 insertLines c q =
-    cond (insideMargins c)
-    (only (withCursor c (toColumn (c .cursor) 1)) (ScrollDown (c .cursor .row - 1) (c .margins .bottom) 0 80 (min (paramN q) (rowsBelow c))))
-    (quiet c)
+    only (withCursor c (toColumn (c .cursor) 1)) (ScrollDown (c .cursor .row - 1) (c .margins .bottom) 0 80 (min (paramN q) (rowsBelow c)))
 
 abbrev pub deleteLines : Core → Params → Decision
 deleteLines c q =
-    cond (insideMargins c)
-    (only (withCursor c (toColumn (c .cursor) 1)) (ScrollUp (c .cursor .row - 1) (c .margins .bottom) 0 80 (min (paramN q) (rowsBelow c))))
-    (quiet c)
+    only (withCursor c (toColumn (c .cursor) 1)) (ScrollUp (c .cursor .row - 1) (c .margins .bottom) 0 80 (min (paramN q) (rowsBelow c)))
 
 -- @ (ICH), P (DCH): n cells
 abbrev pub insertCharacters : Core → Params → Decision
-insertCharacters c q =
-    cond (insideMargins c)
-    (only c (InsertCells (c .cursor .row - 1) (c .cursor .column - 1) 80 (min (paramN q) (cellsRight c)) blank))
-    (quiet c)
+insertCharacters c q = only c (InsertCells (c .cursor .row - 1) (c .cursor .column - 1) 80 (min (paramN q) (cellsRight c)) blank)
 
 abbrev pub deleteCharacters : Core → Params → Decision
-deleteCharacters c q =
-    cond (insideMargins c)
-    (only c (DeleteCells (c .cursor .row - 1) (c .cursor .column - 1) 80 (min (paramN q) (cellsRight c))))
-    (quiet c)
+deleteCharacters c q = only c (DeleteCells (c .cursor .row - 1) (c .cursor .column - 1) 80 (min (paramN q) (cellsRight c)))
 
 -- ---- tabs, modes, rendition, protection: h, l and m take all parameters in order
 
@@ -200,16 +188,14 @@ selectProtection c q =
 abbrev pub askedMargins : Core → Params → Margins
 askedMargins c q = record { top = paramN q; bottom = cond (eqb (param q 1) 0 || ltb (c .rows) (param q 1)) (c .rows) (param q 1) }
 
--- ignored unless top < bottom
+-- unless top < bottom they are ignored
 abbrev pub marginsTaken : Core → Params → Bool
 marginsTaken c q = ltb (askedMargins c q .top) (askedMargins c q .bottom)
 
 -- then cursor home: row 1, or T with origin on
 abbrev pub setMargins : Core → Params → Decision
 setMargins c q =
-    cond (marginsTaken c q)
-    (quiet (withCursor (withMargins c (askedMargins c q)) (place (cond (c .modes .origin) (askedMargins c q .top) 1) 1)))
-    (quiet c)
+    quiet (withCursor (withMargins c (askedMargins c q)) (place (cond (c .modes .origin) (askedMargins c q .top) 1) 1))
 
 -- ! p (DECSTR): these fields from fresh; cursor, tabs, newline and reply width stay
 unfoldable pub softReset : Core → Core

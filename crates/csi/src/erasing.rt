@@ -7,9 +7,8 @@ use parser::params::Params;
 use vt::core::Core;
 use vt::core::Decision;
 use vt::effects::only;
-use vt::effects::quiet;
 ghost use mathlib.Core.Path.{_≡_};
-ghost use mathlib.Core.Bool.{Bool, cond};
+ghost use mathlib.Core.Bool.{cond};
 ghost use Prim.Native.Nat.{_+_, _≤_};
 ghost use lib.Dec.{eqb};
 ghost use Rattle.vt.specs.Bounds.{Bounds};
@@ -40,9 +39,6 @@ fn erase(core: Core, selector: u16, base: u16, end: u16) -> Decision
     requires { ⌜ Bounds core ⌝ }
     ensures { λ r. ⌜ r ≡ sequences.erased core selector base end sequences.toBlank ⌝ }
 {
-    if 2 < selector {
-        return quiet(core);
-    }
     let cursor = core.cursor;
     let run = selected(cursor, selector, base, end);
     only(
@@ -60,9 +56,6 @@ fn erase_selectively(core: Core, selector: u16, base: u16, end: u16) -> Decision
     requires { ⌜ Bounds core ⌝ }
     ensures { λ r. ⌜ r ≡ sequences.erased core selector base end sequences.toSpace ⌝ }
 {
-    if 2 < selector {
-        return quiet(core);
-    }
     let cursor = core.cursor;
     let run = selected(cursor, selector, base, end);
     only(

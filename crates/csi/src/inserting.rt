@@ -1,4 +1,4 @@
-// Control sequences that insert and delete rows and cells. Outside T to B they do nothing.
+// Control sequences that insert and delete rows and cells. Outside T to B they are ignored before they come here.
 use cells::Edit;
 use parser::numbers::at_most;
 use parser::numbers::back;
@@ -6,18 +6,10 @@ use parser::params::Params;
 use vt::core::Core;
 use vt::core::Decision;
 use vt::effects::only;
-use vt::effects::quiet;
 ghost use mathlib.Core.Path.{_≡_};
 ghost use Prim.Native.Nat.{_≤_};
 ghost use Rattle.vt.specs.Bounds.{Bounds};
 ghost use Rattle.csi.specs.Sequences as sequences;
-
-pub fn inside_margins(core: Core) -> bool
-    ensures { λ r. ⌜ r ≡ sequences.insideMargins core ⌝ }
-{
-    let row = core.cursor.row;
-    (core.margins.top <= row) & (row <= core.margins.bottom)
-}
 
 // How many rows there are from the cursor's to B.
 fn rows_below(core: Core) -> u8
@@ -40,19 +32,16 @@ pub fn insert_lines(mut core: Core, params: Params) -> Decision
     requires { ⌜ Bounds core ⌝ }
     ensures { λ r. ⌜ r ≡ sequences.insertLines core params ⌝ }
 {
-    if inside_margins(core) {
-        let cursor = core.cursor;
-        let edit = Edit::ScrollDown {
-            top: cursor.row - 1,
-            end: core.margins.bottom,
-            left: 0,
-            right: 80,
-            count: at_most(params.n(), rows_below(core)),
-        };
-        core.cursor = cursor.to_column(1);
-        return only(core, edit);
-    }
-    quiet(core)
+    let cursor = core.cursor;
+    let edit = Edit::ScrollDown {
+        top: cursor.row - 1,
+        end: core.margins.bottom,
+        left: 0,
+        right: 80,
+        count: at_most(params.n(), rows_below(core)),
+    };
+    core.cursor = cursor.to_column(1);
+    only(core, edit)
 }
 
 // DL.
@@ -60,19 +49,16 @@ pub fn delete_lines(mut core: Core, params: Params) -> Decision
     requires { ⌜ Bounds core ⌝ }
     ensures { λ r. ⌜ r ≡ sequences.deleteLines core params ⌝ }
 {
-    if inside_margins(core) {
-        let cursor = core.cursor;
-        let edit = Edit::ScrollUp {
-            top: cursor.row - 1,
-            end: core.margins.bottom,
-            left: 0,
-            right: 80,
-            count: at_most(params.n(), rows_below(core)),
-        };
-        core.cursor = cursor.to_column(1);
-        return only(core, edit);
-    }
-    quiet(core)
+    let cursor = core.cursor;
+    let edit = Edit::ScrollUp {
+        top: cursor.row - 1,
+        end: core.margins.bottom,
+        left: 0,
+        right: 80,
+        count: at_most(params.n(), rows_below(core)),
+    };
+    core.cursor = cursor.to_column(1);
+    only(core, edit)
 }
 
 // ICH: n cells.
@@ -80,17 +66,14 @@ pub fn insert_characters(core: Core, params: Params) -> Decision
     requires { ⌜ Bounds core ⌝ }
     ensures { λ r. ⌜ r ≡ sequences.insertCharacters core params ⌝ }
 {
-    if inside_margins(core) {
-        let edit = Edit::InsertCells {
-            row: core.cursor.row - 1,
-            column: core.cursor.column - 1,
-            end: 80,
-            count: at_most(params.n(), cells_right(core)),
-            word: 0x20,
-        };
-        return only(core, edit);
-    }
-    quiet(core)
+    let edit = Edit::InsertCells {
+        row: core.cursor.row - 1,
+        column: core.cursor.column - 1,
+        end: 80,
+        count: at_most(params.n(), cells_right(core)),
+        word: 0x20,
+    };
+    only(core, edit)
 }
 
 // DCH.
@@ -98,14 +81,11 @@ pub fn delete_characters(core: Core, params: Params) -> Decision
     requires { ⌜ Bounds core ⌝ }
     ensures { λ r. ⌜ r ≡ sequences.deleteCharacters core params ⌝ }
 {
-    if inside_margins(core) {
-        let edit = Edit::DeleteCells {
-            row: core.cursor.row - 1,
-            column: core.cursor.column - 1,
-            end: 80,
-            count: at_most(params.n(), cells_right(core)),
-        };
-        return only(core, edit);
-    }
-    quiet(core)
+    let edit = Edit::DeleteCells {
+        row: core.cursor.row - 1,
+        column: core.cursor.column - 1,
+        end: 80,
+        count: at_most(params.n(), cells_right(core)),
+    };
+    only(core, edit)
 }

@@ -12,11 +12,9 @@ use vt::effects::quiet;
 use vt::fresh::fresh_saved;
 use vt::fresh::plain_rendition;
 ghost use mathlib.Core.Path.{_≡_};
-ghost use mathlib.Core.Bool.{Bool, cond, _||_};
-ghost use Prim.Native.Nat.{_≤_};
+ghost use mathlib.Core.Bool.{true, cond, _||_};
 ghost use lib.Dec.{eqb, ltb};
 ghost use Rattle.vt.specs.Bounds.{Bounds};
-ghost use Rattle.parser.specs.Params.{paramList};
 ghost use Rattle.csi.specs.Sequences as sequences;
 
 // TBC: 0 the tab here, 3 all.
@@ -184,20 +182,17 @@ pub fn margins_taken(core: Core, params: Params) -> bool
     params.n() < bottom as u16
 }
 
-// DECSTBM: then cursor home, row 1 or T with origin on.
+// DECSTBM, where the margins are taken: then cursor home, row 1 or T with origin on.
 pub fn set_margins(mut core: Core, params: Params) -> Decision
+    requires { ⌜ sequences.marginsTaken core params ≡ true ⌝ }
     ensures { λ r. ⌜ r ≡ sequences.setMargins core params ⌝ }
 {
-    let asked = params.n();
+    let cursor = core.cursor;
     let bottom = asked_bottom(core.rows, params.get(1));
-    if asked < bottom as u16 {
-        let cursor = core.cursor;
-        let top = asked as u8;
-        let margins = Margins { top, bottom };
-        core.margins = margins;
-        core.cursor = cursor.home(pick(core.modes.origin, top, 1), 1);
-        return quiet(core);
-    }
+    let top = params.n() as u8;
+    let margins = Margins { top, bottom };
+    core.margins = margins;
+    core.cursor = cursor.home(pick(core.modes.origin, top, 1), 1);
     quiet(core)
 }
 

@@ -29,12 +29,14 @@ use vt::core::Core;
 use vt::core::Decision;
 use vt::effects::quiet;
 ghost use mathlib.Core.Path.{_≡_};
+ghost use mathlib.Core.Bool.{true};
+ghost use Rattle.parser.specs.Families.{isPlain};
 ghost use Rattle.vt.specs.Bounds.{Bounds};
 ghost use Rattle.csi.specs.Sequences as sequences;
 
-// With no mark and no intermediate.
+// With no mark and no intermediate. DECSTBM comes with margins that are taken.
 fn plain_sequence(core: Core, params: Params, last: u8) -> Decision
-    requires { ⌜ Bounds core ⌝ }
+    requires { ⌜ Bounds core × (last ≡ 0x72 → sequences.marginsTaken core params ≡ true) ⌝ }
     ensures { λ r. ⌜ r ≡ sequences.plainSequence core params last ⌝ }
 {
     match last {
@@ -75,7 +77,7 @@ fn marked_sequence(core: Core, params: Params, last: u8) -> Decision
 }
 
 pub fn sequence(core: Core, params: Params, mark: u8, first: u8, second: u8, last: u8) -> Decision
-    requires { ⌜ Bounds core ⌝ }
+    requires { ⌜ Bounds core × (isPlain mark first second ≡ true → last ≡ 0x72 → sequences.marginsTaken core params ≡ true) ⌝ }
     ensures { λ r. ⌜ r ≡ sequences.sequenced core params mark first second last ⌝ }
 {
     if is_plain(mark, first, second) {

@@ -1,38 +1,41 @@
--- S2, S3, S4 and S8: states stay whole, replies are short, any bytes are taken without harm, and what an edit changes.
+-- Demand 1 and what it stands on: states stay whole, replies are short, any bytes are taken without harm, and what an edit changes.
 use mathlib.Core.Path.{_≡_, refl, sym, ap, _∙_, subst}
 use mathlib.Core.Bool.{Bool, true, false, cond, false≢true}
-use mathlib.Core.List.{List, [], _∷_, _++_}
+use mathlib.Core.List.{List, [], _∷_}
 use mathlib.Core.Logic.{_↔_}
-use Prim.Native.Nat.{ℕ, zero, suc, _+_, _-_, _*_, _^_, _≤_, _<_, zero-le, suc-le-suc}
-use native.Mathlib.Nat.{zero-add}
+use Prim.Native.Nat.{ℕ, suc, _+_, _-_, _*_, _≤_, _<_, zero-le, suc-le-suc}
+use native.Mathlib.Nat.{zero-add, lt-of-lt-of-le}
 use native.Mathlib.Omega.{arith}
 use lib.Dec.{eqb, ltb}
-use lib.Pow.{pow-pos}
+use lib.Pow.{pow-pos, pow-mono}
 use lib.ListN.{length, getD, take, drop, length-append}
-use lib.Seq.{sets, sets-eq, length-sets, take-at, drop-at}
-use borrow.Author.Tests.{le-ltb, ltb-true, ltb-false, eqb-true, eqb-false, eq-eqb, ne-eqb}
+use lib.Seq.{sets, sets-eq, length-sets, take-all, take-at, drop-at}
+use borrow.Author.Tests.{ltb-true, ltb-false, eqb-true, eqb-false}
+use Rattle.cells.specs.Sets.{sizeOf, hasBit}
+use Rattle.cells.proofs.BitLaws.{ones-size}
 use Rattle.cells.proofs.EditLaws.{every-edit}
 use Rattle.vt.specs.declared.core.Core.{Core}
-use Rattle.vt.specs.Whole.{sized}
+use Rattle.vt.specs.Whole.{sized, Whole}
 use Rattle.vt.specs.Fresh.{freshCore}
 use Rattle.dispatch.specs.Decide.{decided, sends}
 use Rattle.sound.proofs.Sound.{fresh-whole}
+use Rattle.sound.proofs.Wholeness.{facts}
 use Rattle.sound.proofs.ReplyLength.{sends-short}
 use Rattle.terminal.specs.declared.State.{State}
 use Rattle.terminal.specs.declared.Answer.{Answer}
-use Rattle.terminal.specs.declared.Answer.the-variants.{Done, Broken, WrongSize, NoRoom, OffPage}
+use Rattle.terminal.specs.declared.Answer.the-variants.{Done, Broken, WrongSize, OffPage}
 use Rattle.terminal.specs.Answers.{number, refusal}
 use Rattle.terminal.specs.Steps.{Screen, stepped, ran, ranCore, sent, readable}
 use Rattle.terminal.specs.Whole.{wholeState, WholeState}
-use Rattle.terminal.specs.Start.{Start, fresh, blankPage, started}
+use Rattle.terminal.specs.Start.{Start, fresh, started}
 use Rattle.terminal.specs.Feed.{Feed, readCount, fitting, screen, feedFirst, feedRefused, fed}
 use Rattle.terminal.specs.Ask.{Ask, asked}
 use Rattle.terminal.specs.Read.{Read, onPage, cellRead}
-use Rattle.terminal.proofs.StepLaws.{Sane, sane-step, sane-ran, ran-core, sent-fits, readable-most, readable-fits}
+use Rattle.terminal.proofs.StepLaws.{Sane, sane-step, sane-ran, ran-core, sent-fits, reads-all, readable-most, readable-fits}
 use Rattle.terminal.proofs.CallLaws.{state-facts, state-tested, sane-screen, fed-broken, fed-size, fed-run, fed-cases, Taken, fed-taken, fed-left, asked-done, asked-broken, asked-whole, started-as, read-as}
-use Rattle.demands.specs.Statements.{Sized, stateOf, FreshWhole, KeptWhole, StepWhole, StartWhole, FeedWhole, AskWhole, RepliesShort, NextTooLong, FeedAnswers, FeedExact, Untouched, FeedRefused, DoneUpTo, FeedDoes, RestKept, ReplyKept, Progress, StartAnswers, StartExact, AskAnswers, AskExact, ReadAnswers, ReadExact, EveryEdit}
+use Rattle.demands.specs.Statements.{Sized, stateOf, FreshWhole, StepWhole, StartWhole, FeedWhole, AskWhole, RepliesShort, NextTooLong, FeedAnswers, FeedExact, FeedRefused, FeedDoes, RestKept, ReplyKept, Progress, StartAnswers, StartExact, AskAnswers, AskExact, ReadAnswers, ReadExact, EveryEdit}
 
--- ---- S2
+-- ---- states stay whole
 
 fresh-rows : (r : ℕ) → fresh r .core .rows ≡ r
 unfolding freshCore
@@ -71,12 +74,12 @@ ask-returns-whole s h =
     let w : WholeState s = state-facts s e in
     rw (asked-done s e) (state-tested (record { core = s .core; changed = 0 }) (record { core = w .core; changed = pow-pos (s .core .rows) }))
 
--- ---- S3
+-- ---- replies are short
 
 pub replies-are-short : RepliesShort
-replies-are-short = sends-short
+replies-are-short c b e = sends-short c (facts c e) b
 
--- ---- S4: feeding
+-- ---- demand 1: feeding
 
 -- both sides hold, or neither does
 both : {A B : Type 0} → A → B → A ↔ B
@@ -101,9 +104,17 @@ stops-before room c (b ∷ bs) h = go (ltb room (length (sends c b))) refl h (st
     go true e l f = let x = ltb-true room (length (sends c b)) e in omega arith
     go false e l f = let x = f (omega arith) in rw length-append (omega arith)
 
+-- and all that is sent is longer than the room
+sends-more : (room : ℕ) (c : Core) (bs : List ℕ) → readable room c bs < length bs → room < length (sent c bs)
+sends-more room c bs h = go (ltb room (length (sent c bs))) refl
+  where
+    go : (t : Bool) → ltb room (length (sent c bs)) ≡ t → room < length (sent c bs)
+    go true e = ltb-true room (length (sent c bs)) e
+    go false e = omega (arith, reads-all room c bs (ltb-false room (length (sent c bs)) e))
+
 module _ (s : State) (p i o : List ℕ) where
-  answers-refused : (a : Answer) → fed s p i o ≡ feedRefused a s p o → number (fed s p i o .result .answer) ≡ number a
-  answers-refused a e = ap (λ (f : Feed). number (f .result .answer)) e
+  answers-refused : (a : Answer) → fed s p i o ≡ feedRefused a s p o → fed s p i o .number ≡ number a
+  answers-refused a e = ap (λ (f : Feed). f .number) e
 
   feed-broken : wholeState s ≡ false → FeedAnswers s p i o
   feed-broken e =
@@ -115,6 +126,8 @@ module _ (s : State) (p i o : List ℕ) where
         wrong-size = neither (λ z. omega arith) (λ x. not-whole (x .0));
         no-room = neither (λ z. omega arith) (λ x. not-whole (x .0));
         never = λ z. omega arith;
+        all-read = λ z. omega arith;
+        stopped = λ z. absurd (omega arith);
       }
 
   feed-size : wholeState s ≡ true → (Sized s p → ⊥) → FeedAnswers s p i o
@@ -126,6 +139,8 @@ module _ (s : State) (p i o : List ℕ) where
         wrong-size = both n (e, h);
         no-room = neither (λ z. omega arith) (λ x. h (x .1));
         never = λ z. omega arith;
+        all-read = λ z. omega arith;
+        stopped = λ z. absurd (omega arith);
       }
 
   module _ (e : wholeState s ≡ true) (h : Sized s p) where
@@ -141,24 +156,31 @@ module _ (s : State) (p i o : List ℕ) where
     feed-runs : (t : Bool) → ltb (readCount s i o) (length i) ≡ t → FeedAnswers s p i o
     feed-runs true g =
         let l = ltb-true (readCount s i o) (length i) g in
-        let n : number (fed s p i o .result .answer) ≡ 3 = ap (λ (f : Feed). number (f .result .answer)) run ∙ rw g in
+        let m = sends-more (length o) (s .core) i l in
+        let n : fed s p i o .number ≡ 3 = ap (λ (f : Feed). f .number) run ∙ rw g in
         record {
-          done = neither (λ z. omega arith) (λ x. let y = x .2 in omega (arith, count));
+          done = neither (λ z. omega arith) (λ x. let y = x .2 in omega arith);
           broken = neither (λ z. omega arith) (λ x. false≢true (sym x ∙ e));
           wrong-size = neither (λ z. omega arith) (λ x. x .1 h);
-          no-room = both n (e, h, too-long l);
+          no-room = both n (e, h, m);
           never = λ z. omega arith;
+          all-read = λ z. omega arith;
+          stopped = λ z. too-long l;
         }
     feed-runs false g =
         let l = ltb-false (readCount s i o) (length i) g in
         let m = readable-most (length o) (s .core) i in
-        let n : number (fed s p i o .result .answer) ≡ 0 = ap (λ (f : Feed). number (f .result .answer)) run ∙ rw g in
+        let fits : length (sent (s .core) i) ≤ length o =
+        subst (λ (l : List ℕ). length (sent (s .core) l) ≤ length o) (take-all (readCount s i o) i (omega arith)) (sent-fits (length o) (s .core) i) in
+        let n : fed s p i o .number ≡ 0 = ap (λ (f : Feed). f .number) run ∙ rw g in
         record {
-          done = both n (e, h, omega (arith, count));
+          done = both n (e, h, fits);
           broken = neither (λ z. omega arith) (λ x. false≢true (sym x ∙ e));
           wrong-size = neither (λ z. omega arith) (λ x. x .1 h);
-          no-room = neither (λ z. omega arith) (λ x. let y = x .2 .more in omega (arith, count));
+          no-room = neither (λ z. omega arith) (λ x. let y = x .2 in omega arith);
           never = λ z. omega arith;
+          all-read = λ z. omega (arith, count);
+          stopped = λ z. absurd (omega arith);
         }
 
 pub feed-is-exact : FeedExact
@@ -197,16 +219,16 @@ reply-rest-kept s p i o =
     (λ e h. rw (fed-size s p i o e h) (record { long = refl; within = zero-le; rest = refl }))
     (λ e h. rw (fed-run s p i o e h) (rest-run s p i o (fitting s i o)))
 
-reads-one : (room : ℕ) (c : Core) (bs : List ℕ) → 1 ≤ length bs → 11 ≤ room → 1 ≤ readable room c bs
-reads-one room c [] l h = absurd (omega arith)
-reads-one room c (b ∷ bs) l h =
-    let short = sends-short c b in
+reads-one : (room : ℕ) (c : Core) (bs : List ℕ) → Whole c → 1 ≤ length bs → 11 ≤ room → 1 ≤ readable room c bs
+reads-one room c [] w l h = absurd (omega arith)
+reads-one room c (b ∷ bs) w l h =
+    let short = sends-short c w b in
     rw (readable-fits room c b bs (omega arith)) (suc-le-suc zero-le)
 
 pub progress : Progress
-progress s p i o e h l room = rw (fed-run s p i o e h) (reads-one (length o) (s .core) i l room)
+progress s p i o e h l room = rw (fed-run s p i o e h) (reads-one (length o) (s .core) i (state-facts s e .core) l room)
 
--- ---- S4: starting, asking, reading
+-- ---- demand 1: starting, asking, reading
 
 pub start-is-exact : StartExact
 start-is-exact r p = go (sized r) refl (eqb (length p) (80 * r)) refl
@@ -215,7 +237,7 @@ start-is-exact r p = go (sized r) refl (eqb (length p) (80 * r)) refl
     go true e true g =
         let l = eqb-true (length p) (80 * r) g in
         let q = started-as r p Done (rw (e, g)) in
-        let n : number (started r p .result .answer) ≡ 0 = ap (λ (x : Start). number (x .result .answer)) q in
+        let n : started r p .number ≡ 0 = ap (λ (x : Start). x .number) q in
         record {
           broken = neither (λ z. omega arith) (λ x. false≢true (sym x ∙ e));
           wrong-size = neither (λ z. omega arith) (λ x. x .1 l);
@@ -226,24 +248,30 @@ start-is-exact r p = go (sized r) refl (eqb (length p) (80 * r)) refl
     go true e false g =
         let l = eqb-false (length p) (80 * r) g in
         let q = started-as r p WrongSize (rw (e, g)) in
-        let n : number (started r p .result .answer) ≡ 2 = ap (λ (x : Start). number (x .result .answer)) q in
+        let n : started r p .number ≡ 2 = ap (λ (x : Start). x .number) q in
         record {
           broken = neither (λ z. omega arith) (λ x. false≢true (sym x ∙ e));
           wrong-size = both n (e, l);
           done = neither (λ z. omega arith) (λ x. l (x .1));
           refused = λ x. (ap (λ (y : Start). y .result .state) q, ap (λ (y : Start). y .page) q);
-          begun = λ x. absurd (false≢true (sym x ∙ ap (λ (y : Start). refusal (y .result .answer)) q));
+          begun = λ x. absurd (omega arith);
         }
     go false e u g =
         let q = started-as r p Broken (rw e) in
-        let n : number (started r p .result .answer) ≡ 1 = ap (λ (x : Start). number (x .result .answer)) q in
+        let n : started r p .number ≡ 1 = ap (λ (x : Start). x .number) q in
         record {
           broken = both n e;
           wrong-size = neither (λ z. omega arith) (λ x. false≢true (sym e ∙ x .0));
           done = neither (λ z. omega arith) (λ x. false≢true (sym e ∙ x .0));
           refused = λ x. (ap (λ (y : Start). y .result .state) q, ap (λ (y : Start). y .page) q);
-          begun = λ x. absurd (false≢true (sym x ∙ ap (λ (y : Start). refusal (y .result .answer)) q));
+          begun = λ x. absurd (omega arith);
         }
+
+-- the rows above R have no bit
+count-64 : (s : State) → wholeState s ≡ true → sizeOf (s .core .rows) (hasBit (s .changed)) ≡ sizeOf 64 (hasBit (s .changed))
+count-64 s e =
+    let w : WholeState s = state-facts s e in
+    sym (ones-size (s .core .rows) (s .changed) (w .changed)) ∙ ones-size 64 (s .changed) (lt-of-lt-of-le (w .changed) (pow-mono {j = 64} (omega (arith, w .core .rows-high))))
 
 pub ask-is-exact : AskExact
 ask-is-exact s = go (wholeState s) refl
@@ -251,19 +279,21 @@ ask-is-exact s = go (wholeState s) refl
     go : (t : Bool) → wholeState s ≡ t → AskAnswers s
     go true e =
         let q = asked-done s e in
-        let n : number (asked s .result .answer) ≡ 0 = ap (λ (x : Ask). number (x .result .answer)) q in
+        let n : asked s .number ≡ 0 = ap (λ (x : Ask). x .number) q in
         record {
           broken = neither (λ z. omega arith) (λ x. false≢true (sym x ∙ e));
           done = both n e;
           refused = λ x. absurd (false≢true (ap (λ (y : Ask). refusal (y .result .answer)) (sym q) ∙ x));
+          reported = λ x. rw q (record { rows = refl; count = count-64 s e; core = refl; emptied = refl });
         }
     go false e =
         let q = asked-broken s e in
-        let n : number (asked s .result .answer) ≡ 1 = ap (λ (x : Ask). number (x .result .answer)) q in
+        let n : asked s .number ≡ 1 = ap (λ (x : Ask). x .number) q in
         record {
           broken = both n e;
           done = neither (λ z. omega arith) (λ x. false≢true (sym e ∙ x));
           refused = λ x. (ap (λ (y : Ask). y .result .rows) q, ap (λ (y : Ask). y .result .count) q, ap (λ (y : Ask). y .result .state) q);
+          reported = λ x. absurd (omega arith);
         }
 
 pub read-is-exact : ReadExact
@@ -273,7 +303,7 @@ read-is-exact s p r c = go (wholeState s) refl (eqb (length p) (80 * s .core .ro
     go true e true g true k =
         let l = eqb-true (length p) (80 * s .core .rows) g in
         let q = read-as s p r c Done (rw (e, g, k)) in
-        let n : number (cellRead s p r c .result .answer) ≡ 0 = ap (λ (x : Read). number (x .result .answer)) q in
+        let n : cellRead s p r c .number ≡ 0 = ap (λ (x : Read). x .number) q in
         record {
           broken = neither (λ z. omega arith) (λ x. false≢true (sym x ∙ e));
           wrong-size = neither (λ z. omega arith) (λ x. x .1 l);
@@ -285,7 +315,7 @@ read-is-exact s p r c = go (wholeState s) refl (eqb (length p) (80 * s .core .ro
     go true e true g false k =
         let l = eqb-true (length p) (80 * s .core .rows) g in
         let q = read-as s p r c OffPage (rw (e, g, k)) in
-        let n : number (cellRead s p r c .result .answer) ≡ 4 = ap (λ (x : Read). number (x .result .answer)) q in
+        let n : cellRead s p r c .number ≡ 4 = ap (λ (x : Read). x .number) q in
         record {
           broken = neither (λ z. omega arith) (λ x. false≢true (sym x ∙ e));
           wrong-size = neither (λ z. omega arith) (λ x. x .1 l);
@@ -297,7 +327,7 @@ read-is-exact s p r c = go (wholeState s) refl (eqb (length p) (80 * s .core .ro
     go true e false g v k =
         let l = eqb-false (length p) (80 * s .core .rows) g in
         let q = read-as s p r c WrongSize (rw (e, g)) in
-        let n : number (cellRead s p r c .result .answer) ≡ 2 = ap (λ (x : Read). number (x .result .answer)) q in
+        let n : cellRead s p r c .number ≡ 2 = ap (λ (x : Read). x .number) q in
         record {
           broken = neither (λ z. omega arith) (λ x. false≢true (sym x ∙ e));
           wrong-size = both n (e, l);
@@ -308,7 +338,7 @@ read-is-exact s p r c = go (wholeState s) refl (eqb (length p) (80 * s .core .ro
         }
     go false e u g v k =
         let q = read-as s p r c Broken (rw e) in
-        let n : number (cellRead s p r c .result .answer) ≡ 1 = ap (λ (x : Read). number (x .result .answer)) q in
+        let n : cellRead s p r c .number ≡ 1 = ap (λ (x : Read). x .number) q in
         record {
           broken = both n e;
           wrong-size = neither (λ z. omega arith) (λ x. false≢true (sym e ∙ x .0));
@@ -318,7 +348,7 @@ read-is-exact s p r c = go (wholeState s) refl (eqb (length p) (80 * s .core .ro
           word = λ x. absurd (false≢true (sym x ∙ ap (λ (y : Read). refusal (y .result .answer)) q));
         }
 
--- ---- S8
+-- ---- edits
 
 pub edits-are-faithful : EveryEdit
 edits-are-faithful n e p h w =

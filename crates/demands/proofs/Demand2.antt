@@ -1,23 +1,18 @@
--- S5, demand 2: feeding in several calls, each done, equals feeding at once. It is the law of a run over appended input.
+-- Demand 2: feeding in several calls, each done, equals feeding at once. It is the law of a run over appended input.
 use mathlib.Core.Path.{_≡_, refl, sym, ap, ap₂, _∙_, subst}
-use mathlib.Core.Bool.{Bool, true, false, cond}
 use mathlib.Core.List.{List, [], _∷_, _++_}
-use Prim.Native.Nat.{ℕ, _+_, _≤_, _<_}
+use Prim.Native.Nat.{ℕ, _+_, _≤_}
 use native.Mathlib.Omega.{arith}
-use lib.Dec.{ltb}
 use lib.ListN.{length, take}
 use lib.Seq.{take-all}
-use borrow.Author.Tests.{le-ltb}
 use Rattle.vt.specs.declared.core.Core.{Core}
 use Rattle.terminal.specs.declared.State.{State}
-use Rattle.terminal.specs.declared.Answer.the-variants.{Done, NoRoom}
 use Rattle.terminal.specs.Answers.{number}
 use Rattle.terminal.specs.Steps.{Screen, ran, ranCore, sent}
-use Rattle.terminal.specs.Whole.{wholeState}
 use Rattle.terminal.specs.Feed.{Feed, readCount, fitting, screen, feedFirst, fed}
-use Rattle.terminal.proofs.StepLaws.{ran-append, ran-core, sent-append, reads-all}
+use Rattle.terminal.proofs.StepLaws.{ran-append, ran-core, sent-append}
 use Rattle.terminal.proofs.CallLaws.{fed-run}
-use Rattle.demands.specs.Statements.{Sized, stateOf, Part, sentBy, Several, several, AllDone, inputOf, SameAtOnce, Demand2}
+use Rattle.demands.specs.Statements.{stateOf, Part, sentBy, Several, several, AllDone, inputOf, Demand2}
 use Rattle.demands.proofs.Demand1.{feed-is-exact, reply-rest-kept, front}
 
 -- ---- one call that is done has read all its input
@@ -27,11 +22,12 @@ record ReadAll (s : State) (p i : List ℕ) (f : Feed) : Type 0 where
   state : f .result .state ≡ stateOf (ran (screen s p) i)
   bytes : sentBy f ≡ sent (s .core) i
 
-read-all : (s : State) (p i o : List ℕ) → number (fed s p i o .result .answer) ≡ 0 → ReadAll s p i (fed s p i o)
+read-all : (s : State) (p i o : List ℕ) → fed s p i o .number ≡ 0 → ReadAll s p i (fed s p i o)
 read-all s p i o h =
     let d = feed-is-exact s p i o .done .0 h in
+    let read = feed-is-exact s p i o .all-read h in
     let run : fed s p i o ≡ feedFirst (fitting s i o) (readCount s i o) s p i o = fed-run s p i o (d .0) (d .1) in
-    let n : readCount s i o ≡ length i = sym (ap (λ (f : Feed). f .result .read) run) ∙ d .2 in
+    let n : readCount s i o ≡ length i = sym (ap (λ (f : Feed). f .result .read) run) ∙ read in
     let all : take (readCount s i o) i ≡ i = take-all (readCount s i o) i (omega arith) in
     let out : List ℕ = sent (s .core) (take (readCount s i o) i) in
     let fits : length out ≤ length o = subst (λ (f : Feed). f .result .replied ≤ length o) run (reply-rest-kept s p i o .within) in
@@ -71,8 +67,6 @@ demand-2 s p xs o e h done room =
     let g = run-of s p xs done in
     let i = inputOf xs in
     let fits : length (sent (s .core) i) ≤ length o = subst (λ (l : List ℕ). length l ≤ length o) (g .bytes) room in
-    let n : readCount s i o ≡ length i = reads-all (length o) (s .core) i fits in
-    let answered : number (fed s p i o .result .answer) ≡ 0 =
-    ap (λ (f : Feed). number (f .result .answer)) (fed-run s p i o e h) ∙ ap (λ (t : Bool). number (cond t NoRoom Done)) (le-ltb (readCount s i o) (length i) (omega arith)) in
+    let answered : fed s p i o .number ≡ 0 = feed-is-exact s p i o .done .1 (e, h, fits) in
     let a = read-all s p i o answered in
     record { answer = answered; page = a .page ∙ sym (g .page); state = a .state ∙ sym (g .state); sent = a .bytes ∙ sym (g .bytes) }

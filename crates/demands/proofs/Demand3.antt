@@ -1,45 +1,43 @@
--- S6, demand 3: every proper list of calls leaves the model's page and shows what the model shows. One relation between the world and the
+-- Demand 3: every proper list of calls leaves the model's page and shows what the model shows. One relation between the world and the
 -- model, one lemma for each kind of call, one induction.
 use mathlib.Core.Path.{_≡_, refl, sym, ap, ap₂, _∙_, subst}
-use mathlib.Core.Bool.{Bool, true, false, cond, not, _||_, false≢true}
-use mathlib.Core.List.{List, [], _∷_, _++_}
-use Prim.Native.Nat.{ℕ, zero, suc, _+_, _-_, _*_, _^_, _≤_, _<_}
+use mathlib.Core.Bool.{Bool, true, false, cond, _||_, _&&_, or-false, or-assoc, and-false, and-true}
+use mathlib.Core.List.{List, [], _∷_, _++_, append-nil}
+use mathlib.Core.Logic.{⊎-elim}
+use Prim.Native.Nat.{ℕ, zero, suc, _+_, _-_, _*_, _%_, _^_, _≤_, _<_}
+use native.Mathlib.Nat.{add-zero, eq-or-lt-of-le, le-of-suc-le-suc, lt-of-lt-of-le, div-eq-of-lt}
 use native.Mathlib.Omega.{arith}
 use lib.Dec.{ltb, eqb}
-use lib.Seq.{sets}
-use lib.ListN.{length, take, drop, replicate, length-replicate}
+use lib.Pow.{pow-mono}
+use lib.Seq.{drop-drop}
+use lib.ListN.{length, take, drop, length-replicate, take-append-drop}
+use borrow.Author.Tests.{eq-eqb, ne-eqb}
 use Rattle.cells.specs.declared.Edit.{Edit}
 use Rattle.cells.specs.Cells.{blank}
-use Rattle.cells.specs.Rows.{row, joined}
-use Rattle.cells.specs.Sets.{bitsOf, sizeOf, hasBit, added, changed}
+use Rattle.cells.specs.Rows.{row}
+use Rattle.cells.specs.Sets.{bitsOf, hasBit, changed}
 use Rattle.cells.specs.Edits.{applied, Within}
 use Rattle.cells.proofs.BitLaws.{bits-at, bits-none, bits-lt, added-bits, size-ext}
 use Rattle.cells.proofs.RowLaws.{joined-ext, joined-rows}
 use Rattle.cells.proofs.EditLaws.{length-applied, unchanged}
-use Rattle.vt.specs.declared.core.Core.{Core}
 use Rattle.vt.specs.declared.core.Decision.{Decision}
-use Rattle.vt.specs.Whole.{Whole, sized}
+use Rattle.vt.specs.Whole.{Whole}
 use Rattle.vt.specs.Fresh.{freshCore}
 use Rattle.dispatch.specs.Decide.{decided}
 use Rattle.parser.proofs.Tests.{or-left, or-right}
 use Rattle.sound.proofs.SoundParts.{Sound}
 use Rattle.sound.proofs.Sound.{decided-sound, fresh-whole}
 use Rattle.terminal.specs.declared.State.{State}
-use Rattle.terminal.specs.declared.Answer.{Answer}
-use Rattle.terminal.specs.declared.Answer.the-variants.{Done}
 use Rattle.terminal.specs.Answers.{number, refusal}
 use Rattle.terminal.specs.Steps.{Screen, Marked, edited, stepped, ran, sent, readable}
-use Rattle.terminal.specs.Whole.{wholeState}
-use Rattle.terminal.specs.Start.{Start, blankPage, fresh, started}
-use Rattle.terminal.specs.Feed.{Feed, feedRefused, fed}
-use Rattle.terminal.specs.Ask.{asked}
-use Rattle.terminal.specs.Read.{cellRead}
+use Rattle.terminal.specs.Start.{blankPage, started}
+use Rattle.terminal.specs.Feed.{fed}
 use Rattle.terminal.proofs.StepLaws.{edited-page, edited-changed, sent-fits}
 use Rattle.terminal.proofs.CallLaws.{Taken, fed-taken, fed-left, fed-run, run-number, asked-whole, asked-done}
 use Rattle.demands.specs.Model as M
-use Rattle.demands.specs.Model.{Model, Call, feeding, asking, reading, Told, Seen, sawFed, sawRows, sawCell, rowList, joins, byte, bytes}
+use Rattle.demands.specs.Model.{Model, Call, feeding, asking, reading, Seen, sawFed, sawRows, sawCell, rowList, joins, byte, bytes}
 use Rattle.demands.specs.World as W
-use Rattle.demands.specs.World.{World, Item, Lent, hers, other, patched, Proper, Given}
+use Rattle.demands.specs.World.{World, Item, Lent, hers, part, other, isListed, patched, Proper, Given}
 use Rattle.demands.specs.Statements.{Agrees, Demand3}
 use Rattle.demands.proofs.Demand1.{start-is-exact, read-is-exact, front}
 
@@ -156,6 +154,47 @@ row-list-ext zero s t h = refl
 row-list-ext (suc n) s t h =
     ap₂ (λ (l : List ℕ) (b : Bool). l ++ cond b (suc n ∷ []) []) (row-list-ext n s t (λ k l. h k (omega arith))) (h n (omega arith))
 
+-- a row past those that a number has room for has no bit in it
+bit-past : (n m k : ℕ) → m < 2 ^ n → n ≤ k → hasBit m k ≡ false
+bit-past n m k l h = ap (λ (x : ℕ). eqb (x % 2) 1) (div-eq-of-lt (lt-of-lt-of-le l (pow-mono h)))
+
+list-past : (n d : ℕ) (s : ℕ → Bool) → ((k : ℕ) → n ≤ k → s k ≡ false) → rowList (n + d) s ≡ rowList n s
+unfolding rowList
+list-past n zero s h = ap (λ (k : ℕ). rowList k s) (add-zero n)
+list-past n (suc d) s h =
+    let e : n + suc d ≡ suc (n + d) = omega arith in
+    ap (λ (k : ℕ). rowList k s) e ∙ ap (λ (b : Bool). rowList (n + d) s ++ cond b (suc (n + d) ∷ []) []) (h (n + d) (omega arith)) ∙ append-nil (rowList (n + d) s) ∙ list-past n d s h
+
+-- so the 64 bits list the set's rows
+list-64 : (r : ℕ) (s : ℕ → Bool) → r ≤ 64 → rowList 64 (hasBit (bitsOf r s)) ≡ rowList r s
+list-64 r s l =
+    let e : 64 ≡ r + (64 - r) = omega arith in
+    ap (λ (n : ℕ). rowList n (hasBit (bitsOf r s))) e ∙ list-past r (64 - r) (hasBit (bitsOf r s)) (λ k h. bit-past r (bitsOf r s) k (bits-lt r s) h)
+    ∙ row-list-ext r (hasBit (bitsOf r s)) s (bits-at r s)
+
+listed-last : (xs : List ℕ) (t : Bool) (r k : ℕ) → isListed (xs ++ cond t (r ∷ []) []) k ≡ (isListed xs k || (t && eqb r k))
+listed-last [] true r k = or-false (eqb r k)
+listed-last [] false r k = refl
+listed-last (x ∷ xs) t r k = ap (λ (b : Bool). eqb x k || b) (listed-last xs t r k) ∙ sym (or-assoc (eqb x k) (isListed xs k) (t && eqb r k))
+
+listed-above : (n : ℕ) (s : ℕ → Bool) (k : ℕ) → n ≤ k → isListed (rowList n s) (k + 1) ≡ false
+unfolding rowList
+listed-above zero s k l = refl
+listed-above (suc n) s k l =
+    listed-last (rowList n s) (s n) (suc n) (k + 1)
+    ∙ ap₂ (λ (a b : Bool). a || (s n && b)) (listed-above n s k (omega arith)) (ne-eqb (suc n) (k + 1) (omega arith)) ∙ and-false (s n)
+
+-- a row of the set is listed, and no other
+listed-row : (n : ℕ) (s : ℕ → Bool) (k : ℕ) → k < n → isListed (rowList n s) (k + 1) ≡ s k
+unfolding rowList
+listed-row zero s k l = absurd (omega arith)
+listed-row (suc n) s k l =
+    listed-last (rowList n s) (s n) (suc n) (k + 1)
+    ∙ ⊎-elim
+    (λ (e : k ≡ n). ap₂ (λ (a b : Bool). a || (s n && b)) (listed-above n s k (omega arith)) (eq-eqb (suc n) (k + 1) (omega arith)) ∙ and-true (s n) ∙ ap s (sym e))
+    (λ (h : k < n). ap₂ (λ (a b : Bool). a || (s n && b)) (listed-row n s k h) (ne-eqb (suc n) (k + 1) (omega arith)) ∙ ap (λ (b : Bool). s k || b) (and-false (s n)) ∙ or-false (s k))
+    (eq-or-lt-of-le (le-of-suc-le-suc l))
+
 ap₃ : {A B C D : Type 0} (f : A → B → C → D) {a a' : A} {b b' : B} {c c' : C} → a ≡ a' → b ≡ b' → c ≡ c' → f a b c ≡ f a' b' c'
 ap₃ f p q r = λ i. f (p i) (q i) (r i)
 
@@ -180,13 +219,17 @@ module _ (r : ℕ) (m : Model) (copy : List ℕ) (K : Kept r m copy) where
         same = rw run (ap₂ (λ (a : ℕ) (l : List ℕ). sawFed a n l) (run-number (ltb n (length i))) (front out o (sent-fits (length o) (m .core) i)));
       }
 
-  -- the copy with the reported rows replaced is the page
-  patched-right : patched r (bitsOf r (m .rows)) copy (m .page) ≡ m .page
+  -- the rows that an asking lists
+  listed-all : rowList 64 (hasBit (bitsOf r (m .rows))) ≡ rowList r (m .rows)
+  listed-all = list-64 r (m .rows) (omega (arith, K .whole .rows-high, K .rows))
+
+  -- the copy with these rows replaced is the page
+  patched-right : patched r (rowList r (m .rows)) copy (m .page) ≡ m .page
   patched-right =
-      joined-ext r (λ k. cond (hasBit (bitsOf r (m .rows)) k) (row (m .page) k) (row copy k)) (row (m .page)) each ∙ joined-rows r (m .page) (K .size)
+      joined-ext r (λ k. cond (isListed (rowList r (m .rows)) (k + 1)) (row (m .page) k) (row copy k)) (row (m .page)) each ∙ joined-rows r (m .page) (K .size)
     where
-      each : (k : ℕ) → k < r → cond (hasBit (bitsOf r (m .rows)) k) (row (m .page) k) (row copy k) ≡ row (m .page) k
-      each k l = rw (bits-at r (m .rows) k l) (pick (m .rows k) refl)
+      each : (k : ℕ) → k < r → cond (isListed (rowList r (m .rows)) (k + 1)) (row (m .page) k) (row copy k) ≡ row (m .page) k
+      each k l = ap (λ (t : Bool). cond t (row (m .page) k) (row copy k)) (listed-row r (m .rows) k l) ∙ pick (m .rows k) refl
         where
           pick : (t : Bool) → m .rows k ≡ t → cond t (row (m .page) k) (row copy k) ≡ row (m .page) k
           pick true e = refl
@@ -199,14 +242,15 @@ module _ (r : ℕ) (m : Model) (copy : List ℕ) (K : Kept r m copy) where
       let done = asked-done own (asked-whole own h) in
       let bits : ℕ = bitsOf r (m .rows) in
       let in-set : (k : ℕ) → k < m .core .rows → hasBit bits k ≡ m .rows k = λ k l. bits-at r (m .rows) k (subst (λ (n : ℕ). k < n) (K .rows) l) in
-      let right : patched (m .core .rows) bits copy (m .page) ≡ m .page = ap (λ (n : ℕ). patched n bits copy (m .page)) (K .rows) ∙ patched-right in
+      let rows : List ℕ = rowList 64 (hasBit bits) in
+      let right : patched (m .core .rows) rows copy (m .page) ≡ m .page = ap₂ (λ (n : ℕ) (l : List ℕ). patched n l copy (m .page)) (K .rows) listed-all ∙ patched-right in
       record {
         related = record {
           copy = m .page;
           is = rw done (ap₂ (λ (x : ℕ) (c : List ℕ). record { page = m .page; state = record { core = m .core; changed = x }; copy = c }) (sym (bits-none r)) right);
           kept = record { rows = K .rows; whole = K .whole; size = K .size; right = λ k l e. refl };
         };
-        same = rw done (ap₃ sawRows (row-list-ext (m .core .rows) (hasBit bits) (m .rows) in-set) (size-ext (m .core .rows) (hasBit bits) (m .rows) in-set) right);
+        same = rw done (ap₃ sawRows (listed-all ∙ ap (λ (n : ℕ). rowList n (m .rows)) (sym (K .rows))) (size-ext (m .core .rows) (hasBit bits) (m .rows) in-set) right);
       }
 
   reading-matches : (i j : ℕ) → refusal (W.answerTo (worldOf r m copy) own hers (reading i j)) ≡ false
@@ -229,6 +273,9 @@ given-matches r m copy K (reading i j) s l es el h = rw (es, el) (reading-matche
 -- a refused call leaves her world, whatever it was given
 left-page : (w : World) (l : Lent) (q : List ℕ) → q ≡ W.wordsOf w l → W.pageAfter w l q ≡ w .page
 left-page w hers q e = e
+left-page w (part a n) q e =
+    let p : List ℕ = w .page in
+    ap₂ (λ (x y : List ℕ). take a p ++ (x ++ y)) e (sym (drop-drop n a p)) ∙ ap (λ (x : List ℕ). take a p ++ x) (take-append-drop n (drop a p)) ∙ take-append-drop a p
 left-page w (other p) q e = refl
 
 refused-left : (w : World) (call : Call) (s : State) (l : Lent) → refusal (W.answerTo w s l call) ≡ true → W.worldAfter w s l call ≡ w
@@ -258,11 +305,11 @@ item r m w x R G false e =
 
 agrees : (r : ℕ) (w : World) (m : Model) (xs : List Item) → Related r w m → Proper w xs → Agrees w m xs
 unfolding W.endsAt W.seenAll W.toldAll M.ends M.showsAll
-agrees r w m [] R P = record { page = ap (λ (v : World). v .page) (R .is); seen = refl }
+agrees r w m [] R P = record { page = ap (λ (v : World). v .page) (R .is); core = ap (λ (v : World). v .state .core) (R .is); seen = refl }
 agrees r w m (x ∷ xs) R P =
     let S = item r m w x R (P .0) (W.isRefused w x) refl in
     let A = agrees r (W.next w x) (M.afterTold m (W.told w x)) xs (S .related) (P .1) in
-    record { page = A .page; seen = ap₂ (λ (a b : List Seen). a ++ b) (S .same) (A .seen) }
+    record { page = A .page; core = A .core; seen = ap₂ (λ (a b : List Seen). a ++ b) (S .same) (A .seen) }
 
 -- ---- the start
 
@@ -270,18 +317,11 @@ begun-rows : (r : ℕ) → M.begun r .core .rows ≡ r
 unfolding freshCore
 begun-rows r = refl
 
-done-refusal : (a : Answer) → number a ≡ 0 → refusal a ≡ false
-done-refusal Done e = refl
-done-refusal Answer.Broken e = absurd (omega arith)
-done-refusal Answer.WrongSize e = absurd (omega arith)
-done-refusal Answer.NoRoom e = refl
-done-refusal Answer.OffPage e = absurd (omega arith)
-
-start-related : (r : ℕ) (p : List ℕ) → number (started r p .result .answer) ≡ 0 → Related r (W.opened r p) (M.begun r)
+start-related : (r : ℕ) (p : List ℕ) → started r p .number ≡ 0 → Related r (W.opened r p) (M.begun r)
 start-related r p h =
     let s = start-is-exact r p in
     let d = s .done .0 h in
-    let b = s .begun (done-refusal (started r p .result .answer) h) in
+    let b = s .begun h in
     let long : length (blankPage r) ≡ 80 * r = length-replicate (80 * r) blank in
     record {
       copy = blankPage r;

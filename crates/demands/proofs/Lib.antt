@@ -1,3 +1,6 @@
+pub mod Representation
+pub mod WholeEdges
 pub mod Demand1
 pub mod Demand2
 pub mod Demand3
+pub mod Signs

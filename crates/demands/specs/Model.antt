@@ -1,6 +1,6 @@
--- The model of demand 3 (document 01, the section of that name): a page, a core and a set of rows of its own.
+-- The model of demand 3 (SCOPE 9): a page, a core and a set of rows of its own.
 -- It is fed the calls' arguments, without page or state, and told which calls were refused.
-use mathlib.Core.Bool.{Bool, true, false, cond, _||_}
+use mathlib.Core.Bool.{Bool, false, cond, _||_}
 use mathlib.Core.List.{List, [], _∷_, _++_}
 use Prim.Native.Nat.{ℕ, zero, suc, _+_}
 use lib.Dec.{ltb}

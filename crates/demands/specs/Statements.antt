@@ -1,23 +1,21 @@
 -- What is proved of the definitions, a sentence above each statement. proofs/ has, for each, a theorem of the type stated here.
 -- The promises of the calls are equations with `started`, `fed`, `asked` and `cellRead`, so what is proved of these holds of the calls.
 use mathlib.Core.Path.{_≡_}
-use mathlib.Core.Bool.{Bool, true, false, cond, _&&_}
+use mathlib.Core.Bool.{true, false}
 use mathlib.Core.List.{List, [], _∷_, _++_}
 use mathlib.Core.Logic.{_↔_}
 use Prim.Native.Nat.{ℕ, _+_, _-_, _*_, _≤_, _<_}
 use lib.ListN.{length, getD, take, drop}
 use Rattle.cells.specs.declared.Edit.{Edit}
 use Rattle.cells.specs.Cells.{blank}
-use Rattle.cells.specs.Sets.{changed}
+use Rattle.cells.specs.Sets.{sizeOf, hasBit, changed}
 use Rattle.cells.specs.Edits.{applied, target, Within}
 use Rattle.vt.specs.declared.core.Core.{Core}
-use Rattle.vt.specs.Whole.{sized}
-use Rattle.device.specs.ReplyBytes.{longestReply}
+use Rattle.vt.specs.Whole.{sized, wholeCore}
 use Rattle.dispatch.specs.Decide.{sends}
 use Rattle.terminal.specs.declared.State.{State}
-use Rattle.terminal.specs.declared.Answer.{Answer}
-use Rattle.terminal.specs.declared.Answer.the-variants.{Done}
-use Rattle.terminal.specs.Answers.{number, refusal}
+use Rattle.terminal.specs.declared.Asked.{Asked}
+use Rattle.terminal.specs.Answers.{refusal}
 use Rattle.terminal.specs.Steps.{Screen, stepped, ran, sent}
 use Rattle.terminal.specs.Whole.{wholeState}
 use Rattle.terminal.specs.Start.{fresh, blankPage, started}
@@ -39,7 +37,7 @@ stateOf d = record { core = d .core; changed = d .changed }
 abbrev pub sentBy : Feed → List ℕ
 sentBy f = take (f .result .replied) (f .reply)
 
--- ==== S2. States stay whole.
+-- ==== States stay whole.
 
 -- The fresh state of each of the three sizes is whole.
 abbrev pub FreshWhole : Type 0
@@ -64,25 +62,28 @@ FeedWhole = (s : State) (p i o : List ℕ) → refusal (fed s p i o .result .ans
 abbrev pub AskWhole : Type 0
 AskWhole = (s : State) → refusal (asked s .result .answer) ≡ false → wholeState (asked s .result .state) ≡ true
 
--- ==== S3. No byte sends more than the longest reply, 11 bytes.
+-- ==== Where the core is whole, no byte sends more than 11 bytes.
 
 abbrev pub RepliesShort : Type 0
-RepliesShort = (c : Core) (b : ℕ) → length (sends c b) ≤ longestReply
+RepliesShort = (c : Core) (b : ℕ) → wholeCore c ≡ true → length (sends c b) ≤ 11
 
--- ==== S4, demand 1. Any bytes are taken without harm.
+-- ==== Demand 1. Any bytes are taken without harm.
 
 -- The next byte's reply is longer than the room left.
 pub record NextTooLong (f : Feed) (i o : List ℕ) : Type 0 where
   pub more : f .result .read < length i
   pub long : length o - f .result .replied < length (sends (f .result .state .core) (getD i (f .result .read) 0))
 
--- A feeding's answers are given exactly when document 01 says, 1 before 2.
+-- A feeding's answers are given exactly when SCOPE 2 says, 1 before 2; 0 where the buffer holds all that the input sends, 3 where it does
+-- not. At 0 all input was read. At 3 the next byte's reply is longer than the room left.
 pub record FeedAnswers (s : State) (p i o : List ℕ) : Type 0 where
-  pub done : number (fed s p i o .result .answer) ≡ 0 ↔ ((wholeState s ≡ true) × Sized s p × (fed s p i o .result .read ≡ length i))
-  pub broken : number (fed s p i o .result .answer) ≡ 1 ↔ (wholeState s ≡ false)
-  pub wrong-size : number (fed s p i o .result .answer) ≡ 2 ↔ ((wholeState s ≡ true) × (Sized s p → ⊥))
-  pub no-room : number (fed s p i o .result .answer) ≡ 3 ↔ ((wholeState s ≡ true) × Sized s p × NextTooLong (fed s p i o) i o)
-  pub never : number (fed s p i o .result .answer) ≡ 4 → ⊥
+  pub done : fed s p i o .number ≡ 0 ↔ ((wholeState s ≡ true) × Sized s p × (length (sent (s .core) i) ≤ length o))
+  pub broken : fed s p i o .number ≡ 1 ↔ (wholeState s ≡ false)
+  pub wrong-size : fed s p i o .number ≡ 2 ↔ ((wholeState s ≡ true) × (Sized s p → ⊥))
+  pub no-room : fed s p i o .number ≡ 3 ↔ ((wholeState s ≡ true) × Sized s p × (length o < length (sent (s .core) i)))
+  pub never : fed s p i o .number ≡ 4 → ⊥
+  pub all-read : fed s p i o .number ≡ 0 → fed s p i o .result .read ≡ length i
+  pub stopped : fed s p i o .number ≡ 3 → NextTooLong (fed s p i o) i o
 
 abbrev pub FeedExact : Type 0
 FeedExact = (s : State) (p i o : List ℕ) → FeedAnswers s p i o
@@ -117,44 +118,53 @@ pub record RestKept (o : List ℕ) (f : Feed) : Type 0 where
 abbrev pub ReplyKept : Type 0
 ReplyKept = (s : State) (p i o : List ℕ) → RestKept o (fed s p i o)
 
--- With room for the longest reply, given input, a whole state and a page of the right length, at least one byte is read.
+-- With room for 11 bytes, given input, a whole state and a page of the right length, at least one byte is read.
 abbrev pub Progress : Type 0
-Progress = (s : State) (p i o : List ℕ) → wholeState s ≡ true → Sized s p → 1 ≤ length i → longestReply ≤ length o → 1 ≤ fed s p i o .result .read
+Progress = (s : State) (p i o : List ℕ) → wholeState s ≡ true → Sized s p → 1 ≤ length i → 11 ≤ length o → 1 ≤ fed s p i o .result .read
 
 -- Starting answers 1 exactly for another R than 24, 36 and 48, then 2 exactly for another length; refused, it returns the fresh 24-row state
 -- and leaves the page; done, the state is fresh and every cell blank.
 pub record StartAnswers (r : ℕ) (p : List ℕ) : Type 0 where
-  pub broken : number (started r p .result .answer) ≡ 1 ↔ (sized r ≡ false)
-  pub wrong-size : number (started r p .result .answer) ≡ 2 ↔ ((sized r ≡ true) × (length p ≡ 80 * r → ⊥))
-  pub done : number (started r p .result .answer) ≡ 0 ↔ ((sized r ≡ true) × (length p ≡ 80 * r))
+  pub broken : started r p .number ≡ 1 ↔ (sized r ≡ false)
+  pub wrong-size : started r p .number ≡ 2 ↔ ((sized r ≡ true) × (length p ≡ 80 * r → ⊥))
+  pub done : started r p .number ≡ 0 ↔ ((sized r ≡ true) × (length p ≡ 80 * r))
   pub refused : refusal (started r p .result .answer) ≡ true → (started r p .result .state ≡ fresh 24) × (started r p .page ≡ p)
-  pub begun : refusal (started r p .result .answer) ≡ false → (started r p .result .state ≡ fresh r) × (started r p .page ≡ blankPage r)
+  pub begun : started r p .number ≡ 0 → (started r p .result .state ≡ fresh r) × (started r p .page ≡ blankPage r)
 
 abbrev pub StartExact : Type 0
 StartExact = (r : ℕ) (p : List ℕ) → StartAnswers r p
 
--- Asking answers 1 exactly for a state that is not whole, and then returns the empty set, 0, and the state as it came.
+-- The changed rows, how many of their 64 bits are 1, and the state with no changed rows.
+pub record Reported (s : State) (a : Asked) : Type 0 where
+  pub rows : a .rows ≡ s .changed
+  pub count : a .count ≡ sizeOf 64 (hasBit (s .changed))
+  pub core : a .state .core ≡ s .core
+  pub emptied : a .state .changed ≡ 0
+
+-- Asking answers 1 exactly for a state that is not whole, and then returns the empty set, 0, and the state as it came. Else it answers 0, and
+-- returns the set, how many rows are in it, and the state with the set emptied.
 pub record AskAnswers (s : State) : Type 0 where
-  pub broken : number (asked s .result .answer) ≡ 1 ↔ (wholeState s ≡ false)
-  pub done : number (asked s .result .answer) ≡ 0 ↔ (wholeState s ≡ true)
+  pub broken : asked s .number ≡ 1 ↔ (wholeState s ≡ false)
+  pub done : asked s .number ≡ 0 ↔ (wholeState s ≡ true)
   pub refused : refusal (asked s .result .answer) ≡ true → (asked s .result .rows ≡ 0) × (asked s .result .count ≡ 0) × (asked s .result .state ≡ s)
+  pub reported : asked s .number ≡ 0 → Reported s (asked s .result)
 
 abbrev pub AskExact : Type 0
 AskExact = (s : State) → AskAnswers s
 
--- Reading a cell answers 1 before 2 before 4, each exactly when document 01 says; refused, it returns a blank cell.
+-- Reading a cell answers 1 before 2 before 4, each exactly when SCOPE 2 says; refused, it returns a blank cell.
 pub record ReadAnswers (s : State) (p : List ℕ) (r c : ℕ) : Type 0 where
-  pub broken : number (cellRead s p r c .result .answer) ≡ 1 ↔ (wholeState s ≡ false)
-  pub wrong-size : number (cellRead s p r c .result .answer) ≡ 2 ↔ ((wholeState s ≡ true) × (Sized s p → ⊥))
-  pub off-page : number (cellRead s p r c .result .answer) ≡ 4 ↔ ((wholeState s ≡ true) × Sized s p × (onPage (s .core .rows) r c ≡ false))
-  pub done : number (cellRead s p r c .result .answer) ≡ 0 ↔ ((wholeState s ≡ true) × Sized s p × (onPage (s .core .rows) r c ≡ true))
+  pub broken : cellRead s p r c .number ≡ 1 ↔ (wholeState s ≡ false)
+  pub wrong-size : cellRead s p r c .number ≡ 2 ↔ ((wholeState s ≡ true) × (Sized s p → ⊥))
+  pub off-page : cellRead s p r c .number ≡ 4 ↔ ((wholeState s ≡ true) × Sized s p × (onPage (s .core .rows) r c ≡ false))
+  pub done : cellRead s p r c .number ≡ 0 ↔ ((wholeState s ≡ true) × Sized s p × (onPage (s .core .rows) r c ≡ true))
   pub refused : refusal (cellRead s p r c .result .answer) ≡ true → cellRead s p r c .result .word ≡ blank
   pub word : refusal (cellRead s p r c .result .answer) ≡ false → cellRead s p r c .result .word ≡ cellAt p r c
 
 abbrev pub ReadExact : Type 0
 ReadExact = (s : State) (p : List ℕ) (r c : ℕ) → ReadAnswers s p r c
 
--- ==== S5, demand 2. Feeding the same bytes in several calls changes nothing, if each call's replies fit.
+-- ==== Demand 2. Feeding the same bytes in several calls changes nothing, if each call's replies fit.
 
 -- A part of the input, and the reply buffer that its call is lent.
 pub record Part : Type 0 where
@@ -179,7 +189,7 @@ abbrev pub AllDone : State → List ℕ → List Part → Type 0
 AllDone s p [] = Unit {0}
 AllDone s p (x ∷ xs) =
     let f = fed s p (x .input) (x .reply) in
-    (number (f .result .answer) ≡ 0) × AllDone (f .result .state) (f .page) xs
+    (f .number ≡ 0) × AllDone (f .result .state) (f .page) xs
 
 abbrev pub inputOf : List Part → List ℕ
 inputOf [] = []
@@ -188,7 +198,7 @@ inputOf (x ∷ xs) = x .input ++ inputOf xs
 -- All at once, with room for what the several calls sent: answer 0, and the same page, the same state with the same changed rows, and the
 -- same replies in a row.
 pub record SameAtOnce (g : Several) (f : Feed) : Type 0 where
-  pub answer : number (f .result .answer) ≡ 0
+  pub answer : f .number ≡ 0
   pub page : f .page ≡ g .page
   pub state : f .result .state ≡ g .state
   pub sent : sentBy f ≡ g .sent
@@ -197,7 +207,7 @@ abbrev pub Demand2 : Type 0
 Demand2 = (s : State) (p : List ℕ) (xs : List Part) (o : List ℕ) → wholeState s ≡ true → Sized s p → AllDone s p xs
     → length (several s p xs .sent) ≤ length o → SameAtOnce (several s p xs) (fed s p (inputOf xs) o)
 
--- ==== S8. Every edit keeps the page's length and each cell outside its target, and the rows that it changes are exactly those where a
+-- ==== Every edit keeps the page's length and each cell outside its target, and the rows that it changes are exactly those where a
 -- cell's word differs.
 
 pub record Edited (n : ℕ) (e : Edit) (p q : List ℕ) : Type 0 where
@@ -209,14 +219,16 @@ pub record Edited (n : ℕ) (e : Edit) (p q : List ℕ) : Type 0 where
 abbrev pub EveryEdit : Type 0
 EveryEdit = (n : ℕ) (e : Edit) (p : List ℕ) → length p ≡ 80 * n → Within n e → Edited n e p (applied n e p)
 
--- ==== S6, demand 3. A page of R rows was started. For every list of calls of which each unrefused one was given the newest state and her
--- page, and a refused one anything: her page is the model's, and what is seen of the calls is what the model shows: answers, counts and bytes
--- sent of feedings, the rows reported, their number and the reader's copy at each asking, the words read.
+-- ==== Demand 3. A page of R rows was started. For every list of calls of which each unrefused one was given the newest state and her
+-- page, and a refused one anything, also a part of her page: her page and the newest core are the model's, and what is seen of the calls is what
+-- the model shows: answers, counts and bytes sent of feedings, the rows reported, their number and the reader's copy at each asking, the words
+-- read.
 
 pub record Agrees (w : W.World) (m : M.Model) (xs : List W.Item) : Type 0 where
   pub page : W.endsAt w xs .page ≡ M.ends m (W.toldAll w xs) .page
+  pub core : W.endsAt w xs .state .core ≡ M.ends m (W.toldAll w xs) .core
   pub seen : W.seenAll w xs ≡ M.showsAll m (W.toldAll w xs)
 
 abbrev pub Demand3 : Type 0
-Demand3 = (r : ℕ) (p : List ℕ) → number (started r p .result .answer) ≡ 0 → (xs : List W.Item) → W.Proper (W.opened r p) xs
+Demand3 = (r : ℕ) (p : List ℕ) → started r p .number ≡ 0 → (xs : List W.Item) → W.Proper (W.opened r p) xs
     → Agrees (W.opened r p) (M.begun r) xs

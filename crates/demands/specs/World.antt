@@ -1,14 +1,16 @@
 -- Every list of calls: what each was given, what it answered, and what it left. Each outcome is the definition that the call's promise cites.
 use mathlib.Core.Path.{_≡_}
-use mathlib.Core.Bool.{Bool, true, false, cond}
+use mathlib.Core.Bool.{Bool, false, cond, _||_}
 use mathlib.Core.List.{List, [], _∷_, _++_}
-use Prim.Native.Nat.{ℕ}
-use lib.ListN.{take}
+use Prim.Native.Nat.{ℕ, _+_}
+use lib.Dec.{eqb}
+use lib.ListN.{take, drop}
 use Rattle.cells.specs.Rows.{row, joined}
 use Rattle.cells.specs.Sets.{hasBit}
 use Rattle.terminal.specs.declared.State.{State}
+use Rattle.terminal.specs.declared.Asked.{Asked}
 use Rattle.terminal.specs.declared.Answer.{Answer}
-use Rattle.terminal.specs.Answers.{number, refusal}
+use Rattle.terminal.specs.Answers.{refusal}
 use Rattle.terminal.specs.Start.{started}
 use Rattle.terminal.specs.Feed.{fed}
 use Rattle.terminal.specs.Ask.{asked}
@@ -17,9 +19,10 @@ use Rattle.demands.specs.Model.{Call, feeding, asking, reading, Told, Se
 
 -- ---- what a call was given
 
--- the page that it was lent: hers, or some other list of words
+-- the page that it was lent: hers, so many words of it from some place on, or some other list of words
 pub data Lent : Type 0 where
   hers : Lent
+  part : ℕ → ℕ → Lent
   other : List ℕ → Lent
 
 -- an item of a list: a call with its state and its page
@@ -40,6 +43,7 @@ opened r p = record { page = started r p .page; state = started r p .result .sta
 
 abbrev pub wordsOf : World → Lent → List ℕ
 wordsOf w hers = w .page
+wordsOf w (part a n) = take n (drop a (w .page))
 wordsOf w (other q) = q
 
 -- ---- one call
@@ -47,11 +51,20 @@ wordsOf w (other q) = q
 -- her page after a call that left q in what it was lent
 abbrev pub pageAfter : World → Lent → List ℕ → List ℕ
 pageAfter w hers q = q
+pageAfter w (part a n) q = take a (w .page) ++ (q ++ drop (a + n) (w .page))
 pageAfter w (other p) q = w .page
 
--- a copy with the reported rows replaced by the page's own
-abbrev pub patched : ℕ → ℕ → List ℕ → List ℕ → List ℕ
-patched n bits copy page = joined n (λ k. cond (hasBit bits k) (row page k) (row copy k))
+-- the rows that an asking reports: every one of the 64 bits counts
+abbrev pub reported : Asked → List ℕ
+reported a = rowList 64 (hasBit (a .rows))
+
+abbrev pub isListed : List ℕ → ℕ → Bool
+isListed [] k = false
+isListed (r ∷ rs) k = eqb r k || isListed rs k
+
+-- a copy of n rows with the listed ones replaced by the page's own
+abbrev pub patched : ℕ → List ℕ → List ℕ → List ℕ → List ℕ
+patched n rows copy page = joined n (λ k. cond (isListed rows (k + 1)) (row page k) (row copy k))
 
 abbrev pub answerTo : World → State → Lent → Call → Answer
 answerTo w s l (feeding i o) = fed s (wordsOf w l) i o .result .answer
@@ -68,7 +81,7 @@ worldAfter w s l asking =
     record {
       page = w .page;
       state = cond (refusal (a .answer)) (w .state) (a .state);
-      copy = cond (refusal (a .answer)) (w .copy) (patched (s .core .rows) (a .rows) (w .copy) (w .page));
+      copy = cond (refusal (a .answer)) (w .copy) (patched (s .core .rows) (reported a) (w .copy) (w .page));
     }
 worldAfter w s l (reading r c) = w
 
@@ -76,10 +89,10 @@ worldAfter w s l (reading r c) = w
 abbrev pub seenOf : World → State → Lent → Call → Seen
 seenOf w s l (feeding i o) =
     let f = fed s (wordsOf w l) i o in
-    sawFed (number (f .result .answer)) (f .result .read) (take (f .result .replied) (f .reply))
+    sawFed (f .number) (f .result .read) (take (f .result .replied) (f .reply))
 seenOf w s l asking =
     let a = asked s .result in
-    sawRows (rowList (s .core .rows) (hasBit (a .rows))) (a .count) (patched (s .core .rows) (a .rows) (w .copy) (w .page))
+    sawRows (reported a) (a .count) (patched (s .core .rows) (reported a) (w .copy) (w .page))
 seenOf w s l (reading r c) = sawCell (cellRead s (wordsOf w l) r c .result .word)
 
 -- ---- an item

@@ -1,3 +1,4 @@
 pub mod TabLaws
 pub mod CursorLaws
+pub mod DecimalLaws
 pub mod SendLaws

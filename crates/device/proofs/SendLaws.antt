@@ -1,21 +1,22 @@
 -- Writing a text byte by byte, and how long a reply is.
 use mathlib.Core.Path.{_≡_, refl, sym, ap, _∙_, subst}
-use mathlib.Core.Bool.{Bool, true, false, cond}
+use mathlib.Core.Bool.{Bool, true, false}
 use mathlib.Core.List.{List, [], _∷_, _++_}
-use Prim.Native.Nat.{ℕ, _+_, _-_, _≤_, _<_}
+use Prim.Native.Nat.{ℕ, _+_, _≤_, _<_}
 use native.Mathlib.Nat.{add-assoc}
 use native.Mathlib.Numerals.{add-one}
 use native.Mathlib.Omega.{arith}
-use lib.Dec.{ltb}
 use lib.ListN.{length, getD, take, set, length-set, length-append}
 use lib.Seq.{take-suc, take-all}
 use denote.Enum.Declared.{tagOf}
 use types.Run.{OneOf, miss}
 use Rattle.device.specs.declared.sending.Reply.{Reply}
 use Rattle.device.specs.declared.sending.Reply.the-variants.{Silent, PrimaryAttributes, SecondaryAttributes, Status, Position, ExtendedPosition, Printer}
-use Rattle.device.specs.ReplyBytes.{decimal, csi, bodyOf, replyBytes, longestReply}
+use Rattle.device.specs.Decimals.{decimal}
+use Rattle.device.specs.ReplyBytes.{csi, bodyOf, replyBytes}
 use Rattle.cells.specs.Writes.{Wrote}
 use Rattle.cells.proofs.Writing.{wrote-more}
+use Rattle.device.proofs.DecimalLaws.{decimal-length}
 use Rattle.device.proofs.sending.Reply as reply
 
 -- ---- a text, byte by byte
@@ -57,13 +58,6 @@ reply-is e Printer h = refl
 
 -- ---- lengths
 
-cond-length : (t : Bool) (x y : List ℕ) (n : ℕ) → length x ≤ n → length y ≤ n → length (cond t x y) ≤ n
-cond-length true x y n p q = p
-cond-length false x y n p q = q
-
-pub decimal-short : (n : ℕ) → length (decimal n) ≤ 2
-decimal-short n = cond-length (ltb n 10) _ _ 2 (omega arith) (omega arith)
-
 pub csi-short : (e : Bool) → length (csi e) ≤ 2
 csi-short true = omega arith
 csi-short false = omega arith
@@ -77,25 +71,38 @@ position-length r c = simp length-append (omega arith)
 pub extended-length : (r c : ℕ) → length (bodyOf (ExtendedPosition r c)) ≡ length (decimal r) + length (decimal c) + 5
 extended-length r c = simp length-append (omega arith)
 
-pub body-short : (r : Reply) → length (bodyOf r) ≤ 9
-body-short Silent = omega arith
-body-short PrimaryAttributes = omega arith
-body-short SecondaryAttributes = omega arith
-body-short Status = omega arith
-body-short (Position r c) = omega (arith, position-length r c, decimal-short r, decimal-short c)
-body-short (ExtendedPosition r c) = omega (arith, extended-length r c, decimal-short r, decimal-short c)
-body-short Printer = omega arith
+-- ---- the longest reply, where row and column are below 100
 
-body-fits : (e : Bool) (r : Reply) → length (csi e ++ bodyOf r) ≤ 11
-body-fits e r = omega (arith, length-append (csi e) (bodyOf r), csi-short e, body-short r)
+abbrev pub TwoDigits : Reply → Type 0
+TwoDigits Silent = Unit {0}
+TwoDigits PrimaryAttributes = Unit {0}
+TwoDigits SecondaryAttributes = Unit {0}
+TwoDigits Status = Unit {0}
+TwoDigits (Position r c) = (r < 100) × (c < 100)
+TwoDigits (ExtendedPosition r c) = (r < 100) × (c < 100)
+TwoDigits Printer = Unit {0}
 
--- the longest reply
-pub reply-short : (e : Bool) (r : Reply) → length (replyBytes e r) ≤ longestReply
+two-digits : (n : ℕ) → n < 100 → length (decimal n) ≤ 2
+two-digits n h = decimal-length n 2 (omega arith) .1 h
+
+body-short : (r : Reply) → TwoDigits r → length (bodyOf r) ≤ 9
+body-short Silent h = omega arith
+body-short PrimaryAttributes h = omega arith
+body-short SecondaryAttributes h = omega arith
+body-short Status h = omega arith
+body-short (Position r c) h = omega (arith, position-length r c, two-digits r (h .0), two-digits c (h .1))
+body-short (ExtendedPosition r c) h = omega (arith, extended-length r c, two-digits r (h .0), two-digits c (h .1))
+body-short Printer h = omega arith
+
+body-fits : (e : Bool) (r : Reply) → TwoDigits r → length (csi e ++ bodyOf r) ≤ 11
+body-fits e r h = omega (arith, length-append (csi e) (bodyOf r), csi-short e, body-short r h)
+
+pub reply-short : (e : Bool) (r : Reply) → TwoDigits r → length (replyBytes e r) ≤ 11
 unfolding replyBytes
-reply-short e Silent = omega arith
-reply-short e PrimaryAttributes = body-fits e PrimaryAttributes
-reply-short e SecondaryAttributes = body-fits e SecondaryAttributes
-reply-short e Status = body-fits e Status
-reply-short e (Position r c) = body-fits e (Position r c)
-reply-short e (ExtendedPosition r c) = body-fits e (ExtendedPosition r c)
-reply-short e Printer = body-fits e Printer
+reply-short e Silent h = omega arith
+reply-short e PrimaryAttributes h = body-fits e PrimaryAttributes h
+reply-short e SecondaryAttributes h = body-fits e SecondaryAttributes h
+reply-short e Status h = body-fits e Status h
+reply-short e (Position r c) h = body-fits e (Position r c) h
+reply-short e (ExtendedPosition r c) h = body-fits e (ExtendedPosition r c) h
+reply-short e Printer h = body-fits e Printer h

@@ -1,5 +1,5 @@
 -- The cursor's moves. Each gives row, column and wrap due together, and takes its stops as arguments.
-use mathlib.Core.Bool.{Bool, true, false, cond, _&&_, _||_}
+use mathlib.Core.Bool.{Bool, false, cond, _&&_, _||_}
 use Prim.Native.Nat.{ℕ, _+_, _-_, _*_, min, max}
 use lib.Dec.{eqb, ltb}
 use Rattle.device.specs.declared.cursor.Cursor.{Cursor}
@@ -47,6 +47,7 @@ advance u last autowrap =
 abbrev pub restore : Cursor → ℕ → ℕ → Bool → Cursor
 restore u top bottom autowrap = record { row = max top (min bottom (u .row)); column = u .column; wrap = u .wrap && autowrap }
 
+-- where it is, no wrap due
 abbrev pub noWrap : Cursor → Cursor
 noWrap u = place (u .row) (u .column)
 

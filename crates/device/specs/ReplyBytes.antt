@@ -1,14 +1,12 @@
--- The bytes of each reply (document 01, "Replies").
-use mathlib.Core.Bool.{Bool, true, false, cond}
+-- The bytes of each reply (SCOPE 7).
+use mathlib.Core.Path.{_≡_}
+use mathlib.Core.Bool.{Bool, true, false}
 use mathlib.Core.List.{List, [], _∷_, _++_}
-use Prim.Native.Nat.{ℕ, _+_, _/_, _%_}
-use lib.Dec.{ltb}
+use Prim.Native.Nat.{ℕ, _≤_}
+use lib.ListN.{length}
+use Rattle.device.specs.Decimals.{decimal}
 use Rattle.device.specs.declared.sending.Reply.{Reply}
 use Rattle.device.specs.declared.sending.Reply.the-variants.{Silent, PrimaryAttributes, SecondaryAttributes, Status, Position, ExtendedPosition, Printer}
-
--- a number below 100 in decimal
-abbrev pub decimal : ℕ → List ℕ
-decimal n = cond (ltb n 10) ((0x30 + n) ∷ []) ((0x30 + n / 10) ∷ (0x30 + n % 10) ∷ [])
 
 -- CSI: 9B with 8-bit replies, else 1B 5B
 abbrev pub csi : Bool → List ℕ
@@ -34,6 +32,8 @@ replyBytes eightbit (Position r c) = csi eightbit ++ bodyOf (Position r c)
 replyBytes eightbit (ExtendedPosition r c) = csi eightbit ++ bodyOf (ExtendedPosition r c)
 replyBytes eightbit Printer = csi eightbit ++ bodyOf Printer
 
--- the longest
-abbrev pub longestReply : ℕ
-longestReply = 11
+-- ---- what the functions that count promise: how many, and the most that any numbers of a byte give, for sums
+
+pub record Counted (bytes : List ℕ) (most r : ℕ) : Type 0 where
+  pub is : r ≡ length bytes
+  pub few : r ≤ most

@@ -1,6 +1,6 @@
 -- Tab stops: 80 flags, one for each column, counted from 1.
-use mathlib.Core.Bool.{Bool, true, false, cond}
-use mathlib.Core.List.{List, [], _∷_}
+use mathlib.Core.Bool.{Bool, cond}
+use mathlib.Core.List.{List, [], _∷_, _++_}
 use Prim.Native.Nat.{ℕ, zero, suc, _+_, _-_, _/_, _%_, _^_}
 use lib.ListN.{getD, set, replicate}
 use Rattle.cells.specs.Sets.{hasBit}
@@ -35,6 +35,11 @@ nextAmong (suc n) t c =
 -- the next tab right of column c, else the last column
 abbrev pub nextTab : Tabs → ℕ → ℕ → ℕ
 nextTab t c last = nextAmong (last - c) t c
+
+-- the columns 1 to n that have a tab
+unfoldable pub tabsUpTo : ℕ → Tabs → List ℕ
+tabsUpTo zero t = []
+tabsUpTo (suc n) t = tabsUpTo n t ++ cond (isTab t (suc n)) (suc n ∷ []) []
 
 -- at 9, 17 and so on to 73
 abbrev pub everyEighth : Tabs

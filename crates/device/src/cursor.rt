@@ -4,11 +4,10 @@ use parser::numbers::back;
 use parser::numbers::held;
 use parser::numbers::on;
 ghost use mathlib.Core.Path.{_≡_};
-ghost use mathlib.Core.Bool.{Bool};
-ghost use Prim.Native.Nat.{_+_, _-_, _*_, _≤_, _<_, min, max};
+ghost use Prim.Native.Nat.{_+_, _-_, _*_, _≤_, _<_};
 ghost use Rattle.device.specs.Cursor as moves;
 
-// Row and column are counted from 1. `wrap` is document 01's "wrap due": the last column was filled,
+// Row and column are counted from 1. `wrap` is "wrap due" (SCOPE 6): the last column was filled,
 // and the next character goes to the next line first.
 pub struct Cursor {
     pub row: u8,
@@ -131,6 +130,14 @@ impl Cursor {
     {
         self.row = held(self.row, top, bottom);
         self.wrap = self.wrap & autowrap;
+        self
+    }
+
+    // Where it is, no wrap due.
+    pub fn no_wrap(mut self) -> Self
+        ensures { λ r. ⌜ r ≡ moves.noWrap self ⌝ }
+    {
+        self.wrap = false;
         self
     }
 

@@ -1,12 +1,12 @@
 // The replies, and their bytes, written into a lent buffer. Each writer takes the place to start at, and
 // returns the place after what it wrote.
 ghost use mathlib.Core.Path.{_≡_};
-ghost use mathlib.Core.Bool.{Bool};
-ghost use mathlib.Core.List.{List, [], _∷_, _++_};
-ghost use Prim.Native.Nat.{_+_, _≤_};
+ghost use mathlib.Core.List.{[], _∷_, _++_};
+ghost use Prim.Native.Nat.{_+_, _≤_, _<_};
 ghost use lib.ListN.{length};
 ghost use Rattle.device.specs.declared.sending.Reply.the-variants.{Position, ExtendedPosition};
-ghost use Rattle.device.specs.ReplyBytes.{decimal, csi, bodyOf, replyBytes};
+ghost use Rattle.device.specs.Decimals.{decimal};
+ghost use Rattle.device.specs.ReplyBytes.{csi, bodyOf, replyBytes, Counted};
 ghost use Rattle.cells.specs.Writes.{Wrote};
 
 // ---- the replies
@@ -35,15 +35,21 @@ fn csi_len(eightbit: bool) -> usize
     if eightbit { 1 } else { 2 }
 }
 
-// How many digits a number below 100 has.
+// How many digits a number has.
 fn digits(n: u8) -> usize
-    ensures { λ r. ⌜ r ≡ length (decimal n) ⌝ }
+    ensures { λ r. ⌜ Counted (decimal n) 3 r ⌝ }
 {
-    if n < 10 { 1 } else { 2 }
+    if n < 10 {
+        1
+    } else if n < 100 {
+        2
+    } else {
+        3
+    }
 }
 
 fn body_len(reply: Reply) -> usize
-    ensures { λ r. ⌜ r ≡ length (bodyOf reply) ⌝ }
+    ensures { λ r. ⌜ Counted (bodyOf reply) 11 r ⌝ }
 {
     match reply {
         Reply::Silent => 0,
@@ -99,14 +105,26 @@ fn send_csi(out: &mut [u8], at: usize, eightbit: bool) -> usize
 }
 
 // A number below 100, in decimal.
-fn send_number(out: &mut [u8], at: usize, n: u8) -> usize
-    requires { ⌜ at + length (decimal n) ≤ length (now out) ⌝ }
+fn send_small_number(out: &mut [u8], at: usize, n: u8) -> usize
+    requires { ⌜ (n < 100) × (at + length (decimal n) ≤ length (now out)) ⌝ }
     ensures { λ r. ⌜ Wrote (now (out .entry)) at (decimal n) (now (out .exit)) r ⌝ }
 {
     if n < 10 {
         return send_byte(out, at, 0x30 + n);
     }
     let next = send_byte(out, at, 0x30 + n / 10);
+    send_byte(out, next, 0x30 + n % 10)
+}
+
+// A number, in decimal.
+fn send_number(out: &mut [u8], at: usize, n: u8) -> usize
+    requires { ⌜ at + length (decimal n) ≤ length (now out) ⌝ }
+    ensures { λ r. ⌜ Wrote (now (out .entry)) at (decimal n) (now (out .exit)) r ⌝ }
+{
+    if n < 100 {
+        return send_small_number(out, at, n);
+    }
+    let next = send_small_number(out, at, n / 10);
     send_byte(out, next, 0x30 + n % 10)
 }
 

@@ -1,6 +1,5 @@
 // The tab stops.
 ghost use mathlib.Core.Path.{_≡_};
-ghost use mathlib.Core.Bool.{Bool};
 ghost use Prim.Native.Nat.{_+_, _≤_, _<_, _^_};
 ghost use Rattle.device.specs.Tabs.{isTab, withTab, withoutTab, noTabs, nextTab};
 

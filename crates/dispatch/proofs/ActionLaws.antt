@@ -10,15 +10,15 @@ use Rattle.parser.specs.declared.parser.Action.the-variants.{Nothing, Character
 use Rattle.parser.proofs.parser.Action as action
 use Rattle.vt.specs.declared.core.Core.{Core}
 use Rattle.device.specs.declared.sending.Reply.the-variants.{Silent}
-use Rattle.dispatch.specs.Replies.{replyTo}
+use Rattle.dispatch.specs.Replies.{reply}
+use Rattle.dispatch.specs.Heard.{isIgnored}
 use Rattle.dispatch.specs.WrapDue.{clearsWrap}
 
 -- the actions that draw no reply
 abbrev pub silentActions : List ℕ
 silentActions = 0 ∷ 1 ∷ 2 ∷ 3 ∷ 5 ∷ []
 
-pub no-reply : (c : Core) (a : Action) → OneOf silentActions (tagOf action.the-type a) → Silent ≡ replyTo c a
-unfolding replyTo
+pub no-reply : (c : Core) (a : Action) → OneOf silentActions (tagOf action.the-type a) → Silent ≡ reply c a
 no-reply c Nothing h = refl
 no-reply c (Character b) h = refl
 no-reply c Substitute h = refl
@@ -40,3 +40,16 @@ keeps-wrap c (Control b) h = absurd (miss unsettledActions 3 tt h)
 keeps-wrap c (C1Control b) h = absurd (miss unsettledActions 4 tt h)
 keeps-wrap c (EscapeSequence first second last) h = absurd (miss unsettledActions 5 tt h)
 keeps-wrap c (ControlSequence mark first second last) h = absurd (miss unsettledActions 6 tt h)
+
+-- the actions that are never ignored
+abbrev pub takenActions : List ℕ
+takenActions = 0 ∷ 1 ∷ 2 ∷ 3 ∷ 4 ∷ 5 ∷ []
+
+pub never-ignored : (c : Core) (a : Action) → OneOf takenActions (tagOf action.the-type a) → false ≡ isIgnored c a
+never-ignored c Nothing h = refl
+never-ignored c (Character b) h = refl
+never-ignored c Substitute h = refl
+never-ignored c (Control b) h = refl
+never-ignored c (C1Control b) h = refl
+never-ignored c (EscapeSequence first second last) h = refl
+never-ignored c (ControlSequence mark first second last) h = absurd (miss takenActions 6 tt h)

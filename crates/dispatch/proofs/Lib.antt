@@ -1,2 +1,4 @@
 pub mod ActionLaws
+pub mod HeardLaws
 pub mod PlainByte
+pub mod WrapLaws

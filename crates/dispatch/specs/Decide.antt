@@ -1,10 +1,8 @@
 -- One byte: the next core, at most two edits, and the reply.
-use mathlib.Core.Bool.{Bool, true, false}
 use mathlib.Core.List.{List}
 use Prim.Native.Nat.{ℕ}
 use Rattle.parser.specs.declared.parser.Action.{Action}
 use Rattle.parser.specs.declared.parser.Action.the-variants.{Nothing, Character, Substitute, Control, C1Control, EscapeSequence, ControlSequence}
-use Rattle.device.specs.declared.sending.Reply.{Reply}
 use Rattle.vt.specs.declared.core.Core.{Core}
 use Rattle.vt.specs.declared.core.Decision.{Decision}
 use Rattle.parser.specs.Parser.{decode}
@@ -12,6 +10,7 @@ use Rattle.vt.specs.Printing.{printed, substituted}
 use Rattle.vt.specs.Controls.{controlled, c1Controlled}
 use Rattle.vt.specs.Escapes.{escaped}
 use Rattle.csi.specs.Sequences.{sequenced}
+use Rattle.dispatch.specs.Heard.{heard}
 use Rattle.dispatch.specs.WrapDue.{clearsWrap, settled}
 use Rattle.dispatch.specs.Replies.{replyTo}
 use Rattle.device.specs.ReplyBytes.{replyBytes}
@@ -27,8 +26,9 @@ effect c (C1Control b) = c1Controlled c b
 effect c (EscapeSequence first second last) = escaped c first second last
 effect c (ControlSequence mark first second last) = sequenced c (c .parser .params) mark first second last
 
+-- and with it, of what is heard
 unfoldable pub executed : Core → Action → Decision
-executed c a = settled (clearsWrap c a) (effect c a)
+executed c a = settled (clearsWrap c a) (effect c (heard c a))
 
 -- the parser takes the byte first; its parameters are those of the action
 unfoldable pub decided : Core → ℕ → Decision

@@ -1,3 +1,4 @@
+pub mod Heard
 pub mod WrapDue
 pub mod Replies
 pub mod Decide

@@ -1,5 +1,5 @@
--- Replies (document 01, the section of that name): which one an action draws.
-use mathlib.Core.Bool.{Bool, true, false, cond, _&&_}
+-- Replies (SCOPE 7): which one an action draws, if it is heard.
+use mathlib.Core.Bool.{cond, _&&_}
 use Prim.Native.Nat.{ℕ, _+_, _-_}
 use lib.Dec.{eqb}
 use Rattle.parser.specs.declared.params.Params.{Params}
@@ -10,6 +10,7 @@ use Rattle.device.specs.declared.sending.Reply.{Reply}
 use Rattle.device.specs.declared.sending.Reply.the-variants.{Silent, PrimaryAttributes, SecondaryAttributes, Status, Position, ExtendedPosition, Printer}
 use Rattle.parser.specs.Params.{param}
 use Rattle.parser.specs.Families.{isPlain, isMarked}
+use Rattle.dispatch.specs.Heard.{isSecondary, heard}
 
 -- the cursor's row, counted from T with origin on
 abbrev pub reportedRow : Core → ℕ
@@ -28,19 +29,22 @@ markedReply c q last =
     cond (eqb last 0x6E && eqb (param q 0) 6) (ExtendedPosition (reportedRow c) (c .cursor .column))
     (cond (eqb last 0x6E && eqb (param q 0) 15) Printer Silent)
 
--- > c (secondary DA)
-abbrev pub isSecondary : Params → ℕ → ℕ → ℕ → ℕ → Bool
-isSecondary q mark first second last = (eqb mark 0x3E && (eqb first 0 && eqb second 0)) && (eqb last 0x63 && eqb (param q 0) 0)
-
-unfoldable pub replyTo : Core → Action → Reply
-replyTo c Nothing = Silent
-replyTo c (Character b) = Silent
-replyTo c Substitute = Silent
-replyTo c (Control b) = Silent
-replyTo c (C1Control b) = cond (eqb b 0x9A) PrimaryAttributes Silent
-replyTo c (EscapeSequence first second last) = Silent
-replyTo c (ControlSequence mark first second last) =
-    let q = c .parser .params in
+-- c, 5 n, 6 n; ?6 n, ?15 n; > c (secondary DA)
+abbrev pub sequenceReply : Core → Params → ℕ → ℕ → ℕ → ℕ → Reply
+sequenceReply c q mark first second last =
     cond (isPlain mark first second) (plainReply c q last)
     (cond (isMarked mark first second) (markedReply c q last)
-    (cond (isSecondary q mark first second last) SecondaryAttributes Silent))
+    (cond (isSecondary mark first second last && eqb (param q 0) 0) SecondaryAttributes Silent))
+
+-- and DECID
+abbrev pub reply : Core → Action → Reply
+reply c Nothing = Silent
+reply c (Character b) = Silent
+reply c Substitute = Silent
+reply c (Control b) = Silent
+reply c (C1Control b) = cond (eqb b 0x9A) PrimaryAttributes Silent
+reply c (EscapeSequence first second last) = Silent
+reply c (ControlSequence mark first second last) = sequenceReply c (c .parser .params) mark first second last
+
+unfoldable pub replyTo : Core → Action → Reply
+replyTo c a = reply c (heard c a)

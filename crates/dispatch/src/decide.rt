@@ -1,4 +1,5 @@
 // An action: the next core, and at most two edits.
+use crate::heard::unless_ignored;
 use crate::wrap::clears_wrap;
 use crate::wrap::settle;
 use csi::sequences::sequence;
@@ -12,12 +13,14 @@ use vt::escapes::escape;
 use vt::printing::print;
 use vt::printing::substitute;
 ghost use mathlib.Core.Path.{_≡_};
+ghost use mathlib.Core.Bool.{false};
 ghost use Rattle.vt.specs.Bounds.{Bounds};
+ghost use Rattle.dispatch.specs.Heard.{isIgnored};
 ghost use Rattle.dispatch.specs.Decide as decisions;
 
 // What an action does, but for wrap due.
 fn effect(core: Core, action: Action) -> Decision
-    requires { ⌜ Bounds core ⌝ }
+    requires { ⌜ Bounds core × (isIgnored core action ≡ false) ⌝ }
     ensures { λ r. ⌜ r ≡ decisions.effect core action ⌝ }
 {
     match action {
@@ -43,11 +46,12 @@ fn effect(core: Core, action: Action) -> Decision
     }
 }
 
-// What an action does.
+// What an action does, if it is heard.
 pub fn execute(core: Core, action: Action) -> Decision
     requires { ⌜ Bounds core ⌝ }
     ensures { λ r. ⌜ r ≡ decisions.executed core action ⌝ }
 {
+    let action = unless_ignored(core, action);
     let clears = clears_wrap(core, action);
     settle(clears, effect(core, action))
 }

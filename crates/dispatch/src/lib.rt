@@ -1,4 +1,5 @@
-// One byte: the parser's action is dispatched, wrap due is settled, and the reply is chosen.
+// One byte: what is heard of the parser's action is dispatched, wrap due is settled, and the reply is chosen.
 pub mod decide;
+pub mod heard;
 pub mod reply;
 pub mod wrap;

@@ -8,12 +8,12 @@ use parser::params::Params;
 use parser::parser::Action;
 use vt::core::Core;
 ghost use mathlib.Core.Path.{_≡_};
-ghost use mathlib.Core.Bool.{Bool, cond};
+ghost use mathlib.Core.Bool.{cond};
 ghost use lib.Dec.{eqb};
 ghost use Rattle.vt.specs.Bounds.{Bounds};
-ghost use Rattle.parser.specs.declared.parser.Action.the-variants.{ControlSequence};
 ghost use Rattle.device.specs.declared.sending.Reply.the-variants.{Silent, PrimaryAttributes};
-ghost use Rattle.dispatch.specs.Replies.{reportedRow, plainReply, markedReply, isSecondary, replyTo};
+ghost use Rattle.dispatch.specs.Heard.{isSecondary};
+ghost use Rattle.dispatch.specs.Replies.{reportedRow, plainReply, markedReply, sequenceReply, replyTo};
 
 // The cursor's row, counted from T with origin on.
 fn reported_row(core: Core) -> u8
@@ -64,16 +64,15 @@ fn marked_reply(core: Core, params: Params, last: u8) -> Reply
 }
 
 // Secondary DA: > c.
-fn is_secondary(params: Params, mark: u8, first: u8, second: u8, last: u8) -> bool
-    ensures { λ r. ⌜ r ≡ isSecondary params mark first second last ⌝ }
+fn is_secondary(mark: u8, first: u8, second: u8, last: u8) -> bool
+    ensures { λ r. ⌜ r ≡ isSecondary mark first second last ⌝ }
 {
-    let selector = params.get(0);
-    ((mark == 0x3E) & ((first == 0) & (second == 0))) & ((last == 0x63) & (selector == 0))
+    ((mark == 0x3E) & ((first == 0) & (second == 0))) & (last == 0x63)
 }
 
 fn sequence_reply(core: Core, mark: u8, first: u8, second: u8, last: u8) -> Reply
     requires { ⌜ Bounds core ⌝ }
-    ensures { λ r. ⌜ r ≡ replyTo core (ControlSequence mark first second last) ⌝ }
+    ensures { λ r. ⌜ r ≡ sequenceReply core (core .parser .params) mark first second last ⌝ }
 {
     let params = core.parser.params;
     if is_plain(mark, first, second) {
@@ -82,7 +81,7 @@ fn sequence_reply(core: Core, mark: u8, first: u8, second: u8, last: u8) -> Repl
     if is_marked(mark, first, second) {
         return marked_reply(core, params, last);
     }
-    if is_secondary(params, mark, first, second, last) {
+    if is_secondary(mark, first, second, last) & (params.get(0) == 0) {
         return Reply::SecondaryAttributes;
     }
     Reply::Silent
@@ -98,6 +97,7 @@ fn control_reply(byte: u8) -> Reply
     Reply::Silent
 }
 
+// No reply is drawn by what is not heard, so that is not asked.
 pub fn reply_to(core: Core, action: Action) -> Reply
     requires { ⌜ Bounds core ⌝ }
     ensures { λ r. ⌜ r ≡ replyTo core action ⌝ }

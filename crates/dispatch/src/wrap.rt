@@ -1,6 +1,4 @@
-// Wrap due: the one policy, over the actions. Printing sets it, ESC 8 restores it.
-use csi::inserting::inside_margins;
-use csi::modes::margins_taken;
+// Wrap due: the one policy, over what is heard. The code tests what clears it, which is less than what keeps it.
 use parser::families::is_marked;
 use parser::families::is_plain;
 use parser::families::is_soft_reset;
@@ -10,98 +8,72 @@ use parser::rules::between;
 use vt::core::Core;
 use vt::core::Decision;
 ghost use mathlib.Core.Path.{_≡_};
-ghost use mathlib.Core.Bool.{Bool};
-ghost use mathlib.Core.List.{List, [], _∷_};
-ghost use Rattle.parser.specs.declared.parser.Action.the-variants.{ControlSequence};
+ghost use mathlib.Core.Bool.{false, not, _&&_};
 ghost use Rattle.parser.specs.Params.{member};
+ghost use Rattle.dispatch.specs.Heard as hearing;
 ghost use Rattle.dispatch.specs.WrapDue as wrap;
 
 // BS, HT, LF, VT, FF, CR.
 fn control_clears(byte: u8) -> bool
-    ensures { λ r. ⌜ r ≡ wrap.controlClears byte ⌝ }
+    ensures { λ r. ⌜ r ≡ member byte hearing.controls && not (member byte wrap.keepingControls) ⌝ }
 {
     between(0x08, byte, 0x0D)
 }
 
 // IND, NEL, RI.
 fn c1_clears(byte: u8) -> bool
-    ensures { λ r. ⌜ r ≡ wrap.c1Clears byte ⌝ }
+    ensures { λ r. ⌜ r ≡ member byte hearing.c1Controls && not (member byte wrap.keepingC1) ⌝ }
 {
     ((byte == 0x84) | (byte == 0x85)) | (byte == 0x8D)
 }
 
 // DECALN, RIS.
 fn escape_clears(first: u8, second: u8, last: u8) -> bool
-    ensures { λ r. ⌜ r ≡ wrap.escapeClears first second last ⌝ }
+    ensures { λ r. ⌜ r ≡ hearing.listedEscape first second last && not (wrap.escapeKeeps first last) ⌝ }
 {
     ((first == 0x23) & ((second == 0) & (last == 0x38))) | ((first == 0) & (last == 0x63))
 }
 
-// CUU, CUD, CUF, CUB, CUP, HVP, ECH.
-fn always_clears(last: u8) -> bool
-    ensures { λ r. ⌜ r ≡ member last (0x41 ∷ 0x42 ∷ 0x43 ∷ 0x44 ∷ 0x48 ∷ 0x66 ∷ 0x58 ∷ []) ⌝ }
+fn plain_clears(last: u8) -> bool
+    ensures { λ r. ⌜ r ≡ member last hearing.plainFinals && not (member last wrap.keepingFinals) ⌝ }
 {
-    (last == 0x41)
-        | (last == 0x42)
-        | (last == 0x43)
-        | (last == 0x44)
-        | (last == 0x48)
-        | (last == 0x66)
-        | (last == 0x58)
-}
-
-// ED, EL.
-fn is_erase(last: u8) -> bool
-    ensures { λ r. ⌜ r ≡ member last (0x4A ∷ 0x4B ∷ []) ⌝ }
-{
-    (last == 0x4A) | (last == 0x4B)
-}
-
-// ICH, IL, DL, DCH.
-fn is_insert(last: u8) -> bool
-    ensures { λ r. ⌜ r ≡ member last (0x40 ∷ 0x4C ∷ 0x4D ∷ 0x50 ∷ []) ⌝ }
-{
-    (last == 0x40) | (last == 0x4C) | (last == 0x4D) | (last == 0x50)
-}
-
-// With a selector that is listed; inside T to B; where the margins are taken.
-fn plain_clears(core: Core, params: Params, last: u8) -> bool
-    ensures { λ r. ⌜ r ≡ wrap.plainClears core params last ⌝ }
-{
-    if always_clears(last) {
-        return true;
+    match last {
+        0x40 => true, // ICH
+        0x41 => true, // CUU
+        0x42 => true, // CUD
+        0x43 => true, // CUF
+        0x44 => true, // CUB
+        0x48 => true, // CUP
+        0x4A => true, // ED
+        0x4B => true, // EL
+        0x4C => true, // IL
+        0x4D => true, // DL
+        0x50 => true, // DCH
+        0x58 => true, // ECH
+        0x66 => true, // HVP
+        0x72 => true, // DECSTBM
+        _ => false,
     }
-    if is_erase(last) {
-        return params.get(0) <= 2;
-    }
-    if is_insert(last) {
-        return inside_margins(core);
-    }
-    (last == 0x72) & margins_taken(core, params)
 }
 
-// DECSED and DECSEL likewise; ?6 set or reset; ?7 reset.
+// DECSED, DECSEL; ?6 set or reset; ?7 reset.
 fn marked_clears(params: Params, last: u8) -> bool
-    ensures { λ r. ⌜ r ≡ wrap.markedClears params last ⌝ }
+    ensures { λ r. ⌜ r ≡ member last hearing.markedFinals && not (wrap.markedKeeps params last) ⌝ }
 {
-    if is_erase(last) {
-        return params.get(0) <= 2;
+    match last {
+        0x4A => true,
+        0x4B => true,
+        0x68 => params.has(6),
+        0x6C => params.has(6) | params.has(7),
+        _ => false,
     }
-    if last == 0x68 {
-        return params.has(6);
-    }
-    if last == 0x6C {
-        return params.has(6) | params.has(7);
-    }
-    false
 }
 
-fn sequence_clears(core: Core, mark: u8, first: u8, second: u8, last: u8) -> bool
-    ensures { λ r. ⌜ r ≡ wrap.clearsWrap core (ControlSequence mark first second last) ⌝ }
+fn sequence_clears(params: Params, mark: u8, first: u8, second: u8, last: u8) -> bool
+    ensures { λ r. ⌜ r ≡ hearing.listedSequence mark first second last && not (wrap.sequenceKeeps params mark first second last) ⌝ }
 {
-    let params = core.parser.params;
     if is_plain(mark, first, second) {
-        return plain_clears(core, params, last);
+        return plain_clears(last);
     }
     if is_marked(mark, first, second) {
         return marked_clears(params, last);
@@ -110,6 +82,7 @@ fn sequence_clears(core: Core, mark: u8, first: u8, second: u8, last: u8) -> boo
 }
 
 pub fn clears_wrap(core: Core, action: Action) -> bool
+    requires { ⌜ hearing.isIgnored core action ≡ false ⌝ }
     ensures { λ r. ⌜ r ≡ wrap.clearsWrap core action ⌝ }
 {
     match action {
@@ -125,7 +98,10 @@ pub fn clears_wrap(core: Core, action: Action) -> bool
             first,
             second,
             last,
-        } => sequence_clears(core, mark, first, second, last),
+        } => {
+            let params = core.parser.params;
+            sequence_clears(params, mark, first, second, last)
+        }
         _ => false,
     }
 }
@@ -135,7 +111,10 @@ pub fn settle(clears: bool, mut decision: Decision) -> Decision
     ensures { λ r. ⌜ r ≡ wrap.settled clears decision ⌝ }
 {
     if clears {
-        decision.core.cursor.wrap = false;
+        let mut core = decision.core;
+        let cursor = core.cursor;
+        core.cursor = cursor.no_wrap();
+        decision.core = core;
         return decision;
     }
     decision

@@ -16,9 +16,9 @@ use Rattle.terminal.specs.Feed.{Feed, feedAs, fed, feedGives, feedAnswer}
 use Rattle.terminal.specs.Ask.{Ask, asked, askGives, askAnswer}
 use Rattle.terminal.specs.Read.{Read, cellRead}
 use Rattle.pankholim.specs.declared.record.Terminal.{Terminal}
-use Rattle.pankholim.specs.Record.{stateOf, recordOf}
+use Rattle.pankholim.specs.Record.{stateOf}
 use Rattle.pankholim.specs.Leaves.{left, StartLeaves, FeedLeaves, AskLeaves, ReadLeaves}
-use Rattle.pankholim.proofs.RecordLaws.{state-back, state-left}
+use Rattle.pankholim.proofs.RecordLaws.{state-left, state-returned}
 
 -- ---- a refused call returns the state as it came
 
@@ -46,14 +46,15 @@ feed-kept s p i o h = fed-kept (feedAnswer s p i o) s p i o h
 
 -- ---- the calls
 
-pub start-leaves : (n : ℕ) (p : List ℕ) (d : Started) (page : List ℕ) (r : ℕ) (u : Terminal)
-    → startAs (d .answer) (d .state) page ≡ started n p → r ≡ number (d .answer) → u ≡ recordOf (d .state)
-    → StartLeaves (started n p) r u page
-start-leaves n p d page r u done er eu =
-    let e : u ≡ recordOf (started n p .result .state) = eu ∙ ap (λ (x : Start). recordOf (x .result .state)) done in
+pub start-leaves : (t : Terminal) (n : ℕ) (p : List ℕ) (d : Started) (page : List ℕ) (r : ℕ) (u : Terminal)
+    → startAs (d .answer) (d .state) page ≡ started n p → r ≡ number (d .answer) → u ≡ left t (d .answer) (d .state)
+    → StartLeaves t (started n p) r u page
+start-leaves t n p d page r u done er eu =
+    let S = started n p in
+    let e : u ≡ left t (S .result .answer) (S .result .state) = eu ∙ ap (λ (x : Start). left t (x .result .answer) (x .result .state)) done in
     record {
-      answer-is = er ∙ ap (λ (x : Start). number (x .result .answer)) done;
-      state-is = ap stateOf e ∙ state-back (started n p .result .state);
+      answer-is = er ∙ ap (λ (x : Start). x .number) done;
+      state-is = ap stateOf e ∙ state-left t (S .result .answer) (S .result .state);
       terminal-is = e;
       page-is = ap (λ (x : Start). x .page) done;
     }
@@ -65,8 +66,8 @@ ask-leaves t s d r u es ed er eu =
     let is : d ≡ asked (stateOf t) .result = ap (λ (x : Ask). x .result) (ed ∙ ap asked es) in
     let e : u ≡ left t (asked (stateOf t) .result .answer) (asked (stateOf t) .result .state) = eu ∙ ap (λ (x : Asked). left t (x .answer) (x .state)) is in
     record {
-      answer-is = er ∙ ap (λ (x : Asked). number (x .answer)) is;
-      state-is = ap stateOf e ∙ state-left t (asked (stateOf t) .result .answer) (asked (stateOf t) .result .state) (ask-kept (stateOf t));
+      answer-is = er ∙ ap (λ (x : Ask). x .number) (ed ∙ ap asked es);
+      state-is = ap stateOf e ∙ state-returned t (asked (stateOf t) .result .answer) (asked (stateOf t) .result .state) (ask-kept (stateOf t));
       terminal-is = e;
       rows-is = ap (λ (x : Asked). x .rows) is;
       count-is = ap (λ (x : Asked). x .count) is;
@@ -81,8 +82,8 @@ feed-leaves t s p i o d page reply r u es done er eu =
     let is : d ≡ fed (stateOf t) p i o .result = ap (λ (x : Feed). x .result) (done ∙ same) in
     let e : u ≡ left t (F .result .answer) (F .result .state) = eu ∙ ap (λ (x : Fed). left t (x .answer) (x .state)) is in
     record {
-      answer-is = er ∙ ap (λ (x : Fed). number (x .answer)) is;
-      state-is = ap stateOf e ∙ state-left t (F .result .answer) (F .result .state) (feed-kept (stateOf t) p i o);
+      answer-is = er ∙ ap (λ (x : Feed). x .number) (done ∙ same);
+      state-is = ap stateOf e ∙ state-returned t (F .result .answer) (F .result .state) (feed-kept (stateOf t) p i o);
       terminal-is = e;
       page-is = ap (λ (x : Feed). x .page) (done ∙ same);
       reply-is = ap (λ (x : Feed). x .reply) (done ∙ same);
@@ -94,8 +95,8 @@ pub read-leaves : (t : Terminal) (s : State) (p : List ℕ) (row column : ℕ) (
     → s ≡ stateOf t → record { number = number (d .answer); result = d } ≡ cellRead s p row column → r ≡ number (d .answer)
     → ReadLeaves (cellRead (stateOf t) p row column) r (d .word)
 read-leaves t s p row column d r es ed er =
-    let is : d ≡ cellRead (stateOf t) p row column .result = ap (λ (x : Read). x .result) (ed ∙ ap (λ (x : State). cellRead x p row column) es) in
+    let same = ed ∙ ap (λ (x : State). cellRead x p row column) es in
     record {
-      answer-is = er ∙ ap (λ (x : CellRead). number (x .answer)) is;
-      word-is = ap (λ (x : CellRead). x .word) is;
+      answer-is = er ∙ ap (λ (x : Read). x .number) same;
+      word-is = ap (λ (x : Read). x .result .word) same;
     }

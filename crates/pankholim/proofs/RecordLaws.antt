@@ -1,6 +1,8 @@
 -- A state's record holds that state again, and so does the record that a call leaves.
+-- The unused bytes are 0 in a state's record, and no part of the state of any.
 use mathlib.Core.Path.{_≡_, refl, sym, ap}
 use mathlib.Core.Bool.{Bool, true, false, cond, _&&_}
+use mathlib.Core.List.{List, [], _∷_}
 use Prim.Native.Nat.{ℕ}
 use lib.Dec.{ltb}
 use Rattle.cells.specs.Cells.{setNumber, setOf}
@@ -193,11 +195,50 @@ pub state-back : (s : State) → stateOf (recordOf s) ≡ s
 unfolding stateOf recordOf
 state-back s = λ i. record { core = core-back s _ (rows-back s) i; changed = s .changed }
 
--- ---- what a call leaves, where a refused one returns the state as it came
+-- ---- the unused bytes
 
-pub state-left : (t : Terminal) (a : Answer) (s : State) → (refusal a ≡ true → s ≡ stateOf t) → stateOf (left t a s) ≡ s
-state-left t Done s h = state-back s
-state-left t Broken s h = sym (h refl)
-state-left t WrongSize s h = sym (h refl)
-state-left t NoRoom s h = state-back s
-state-left t OffPage s h = sym (h refl)
+-- a record with others
+abbrev withUnused : Terminal → List ℕ → Terminal
+withUnused t bytes = record {
+  changed = t .changed;
+  values = t .values;
+  tabs = t .tabs;
+  rows = t .rows;
+  top = t .top;
+  bottom = t .bottom;
+  protected = t .protected;
+  shift = t .shift;
+  cursor = t .cursor;
+  modes = t .modes;
+  rendition = t .rendition;
+  sets = t .sets;
+  saved = t .saved;
+  parser = t .parser;
+  unused = bytes;
+}
+
+pub unused-ignored : (t : Terminal) (bytes : List ℕ) → stateOf (withUnused t bytes) ≡ stateOf t
+unfolding stateOf coreOf named
+unused-ignored t bytes = refl
+
+pub unused-zero : (s : State) → recordOf s .unused ≡ 0 ∷ 0 ∷ 0 ∷ []
+unfolding recordOf
+unused-zero s = refl
+
+-- ---- what a call leaves
+
+-- refused, the state as it was
+pub state-left : (t : Terminal) (a : Answer) (s : State) → stateOf (left t a s) ≡ cond (refusal a) (stateOf t) s
+state-left t Done s = state-back s
+state-left t Broken s = refl
+state-left t WrongSize s = refl
+state-left t NoRoom s = state-back s
+state-left t OffPage s = refl
+
+-- which is the state returned, where a refused call returns it as it came
+pub state-returned : (t : Terminal) (a : Answer) (s : State) → (refusal a ≡ true → s ≡ stateOf t) → stateOf (left t a s) ≡ s
+state-returned t Done s h = state-back s
+state-returned t Broken s h = sym (h refl)
+state-returned t WrongSize s h = sym (h refl)
+state-returned t NoRoom s h = state-back s
+state-returned t OffPage s h = sym (h refl)

@@ -30,14 +30,14 @@ module _ (p o : List ℕ) where
 
     pub leaves-whole : (n : ℕ) → w ≡ Whole n → WriteLeaves p o 0 b n
     leaves-whole n is = record {
-      answer-is = sym (ap (λ (d : Write). writtenNumber (d .result)) e ∙ ap writtenNumber is);
+      answer-is = sym (ap (λ (d : Write). d .number) e ∙ ap writtenNumber is);
       out-is = sym (ap (λ (d : Write). d .buffer) e);
       len-is = sym (ap (taken (length (pageText p))) is) ∙ sym (ap (λ (d : Write). taken (length (pageText p)) (d .result)) e) ∙ taken-is;
     }
 
     pub leaves-none : (n : ℕ) → w ≡ NoRoom → n ≡ length (pageText p) → WriteLeaves p o 3 b n
     leaves-none n is len = record {
-      answer-is = sym (ap (λ (d : Write). writtenNumber (d .result)) e ∙ ap writtenNumber is);
+      answer-is = sym (ap (λ (d : Write). d .number) e ∙ ap writtenNumber is);
       out-is = sym (ap (λ (d : Write). d .buffer) e);
       len-is = len;
     }

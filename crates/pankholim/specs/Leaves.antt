@@ -11,7 +11,7 @@ use Rattle.terminal.specs.Start.{Start}
 use Rattle.terminal.specs.Feed.{Feed}
 use Rattle.terminal.specs.Ask.{Ask}
 use Rattle.terminal.specs.Read.{Read}
-use Rattle.text.specs.Text.{pageText, writtenNumber, written}
+use Rattle.text.specs.Text.{pageText, written}
 use Rattle.pankholim.specs.declared.record.Terminal.{Terminal}
 use Rattle.pankholim.specs.Record.{stateOf, recordOf}
 
@@ -19,16 +19,17 @@ use Rattle.pankholim.specs.Record.{stateOf, recordOf}
 abbrev pub left : Terminal → Answer → State → Terminal
 left t a s = cond (refusal a) t (recordOf s)
 
--- d is `started` of a number of rows and a page; the number returned, and the record and the page at exit
-pub record StartLeaves (d : Start) (r : ℕ) (terminal : Terminal) (page : List ℕ) : Type 0 where
-  pub answer-is : r ≡ number (d .result .answer)
-  pub state-is : stateOf terminal ≡ d .result .state
-  pub terminal-is : terminal ≡ recordOf (d .result .state)
+-- t is the record at entry, and d is `started` of a number of rows and a page; the number returned, and the record and the page at exit.
+-- Refused, the record is left, and with it its state: the fresh 24-row state that the call by value returns is not stored.
+pub record StartLeaves (t : Terminal) (d : Start) (r : ℕ) (terminal : Terminal) (page : List ℕ) : Type 0 where
+  pub answer-is : r ≡ d .number
+  pub state-is : stateOf terminal ≡ cond (refusal (d .result .answer)) (stateOf t) (d .result .state)
+  pub terminal-is : terminal ≡ left t (d .result .answer) (d .result .state)
   pub page-is : page ≡ d .page
 
 -- t is the record at entry, and d is `fed` of its state, a page, the input and a reply buffer; the number returned, and the rest at exit
 pub record FeedLeaves (t : Terminal) (d : Feed) (r : ℕ) (terminal : Terminal) (page reply : List ℕ) (read replied : ℕ) : Type 0 where
-  pub answer-is : r ≡ number (d .result .answer)
+  pub answer-is : r ≡ d .number
   pub state-is : stateOf terminal ≡ d .result .state
   pub terminal-is : terminal ≡ left t (d .result .answer) (d .result .state)
   pub page-is : page ≡ d .page
@@ -38,7 +39,7 @@ pub record FeedLeaves (t : Terminal) (d : Feed) (r : ℕ) (terminal : Terminal) 
 
 -- t is the record at entry, and d is `asked` of its state; the number returned, and the record, the changed rows and how many they are at exit
 pub record AskLeaves (t : Terminal) (d : Ask) (r : ℕ) (terminal : Terminal) (rows count : ℕ) : Type 0 where
-  pub answer-is : r ≡ number (d .result .answer)
+  pub answer-is : r ≡ d .number
   pub state-is : stateOf terminal ≡ d .result .state
   pub terminal-is : terminal ≡ left t (d .result .answer) (d .result .state)
   pub rows-is : rows ≡ d .result .rows
@@ -46,11 +47,11 @@ pub record AskLeaves (t : Terminal) (d : Ask) (r : ℕ) (terminal : Terminal) (r
 
 -- d is `cellRead` of a record's state, a page, a row and a column; the number returned, and the word at exit
 pub record ReadLeaves (d : Read) (r word : ℕ) : Type 0 where
-  pub answer-is : r ≡ number (d .result .answer)
+  pub answer-is : r ≡ d .number
   pub word-is : word ≡ d .result .word
 
 -- a page and a buffer; the number returned, and the buffer and the bytes that the text takes at exit
 pub record WriteLeaves (p o : List ℕ) (r : ℕ) (out : List ℕ) (len : ℕ) : Type 0 where
-  pub answer-is : r ≡ writtenNumber (written p o .result)
+  pub answer-is : r ≡ written p o .number
   pub out-is : out ≡ written p o .buffer
   pub len-is : len ≡ length (pageText p)

@@ -3,6 +3,7 @@ use mathlib.Core.Bool.{Bool, cond, _&&_}
 use mathlib.Core.List.{List}
 use Prim.Native.Nat.{ℕ}
 use lib.Dec.{ltb}
+use lib.ListN.{replicate}
 use Rattle.cells.specs.Cells.{setNumber, setOf}
 use Rattle.cells.specs.declared.Rendition.{Rendition}
 use Rattle.device.specs.declared.charsets.Sets.{Sets}
@@ -89,6 +90,7 @@ recordOf s = record {
   sets = setsRecord (s .core .sets);
   saved = savedRecord (s .core .saved);
   parser = parserRecord (s .core .parser);
+  unused = replicate 3 0;
 }
 
 -- ---- the state of a record

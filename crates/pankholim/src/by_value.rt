@@ -43,14 +43,14 @@ fn record_left(terminal: Terminal, answer: Answer, state: State) -> Terminal
     record_of(state)
 }
 
-pub fn start(rows: u8, page: &mut [u16]) -> Left
-    ensures { λ r. ⌜ leaving.StartLeaves (started rows (now (page .entry))) (r .answer) (r .terminal) (now (page .exit)) ⌝ }
+pub fn start(terminal: Terminal, rows: usize, page: &mut [u16]) -> Left
+    ensures { λ r. ⌜ leaving.StartLeaves terminal (started rows (now (page .entry))) (r .answer) (r .terminal) (now (page .exit)) ⌝ }
 {
     let done = calls::start(rows as usize, page);
     let answer = done.answer;
     Left {
         answer: number(answer),
-        terminal: record_of(done.state),
+        terminal: record_left(terminal, answer, done.state),
     }
 }
 

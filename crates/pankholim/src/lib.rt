@@ -18,12 +18,12 @@ ghost use Rattle.text.specs.Text.{pageText};
 ghost use Rattle.pankholim.specs.Record.{stateOf};
 ghost use Rattle.pankholim.specs.Leaves.{StartLeaves, FeedLeaves, AskLeaves, ReadLeaves, WriteLeaves};
 
-// Starts a terminal of 24, 36 or 48 rows: every cell blank, the record fresh, whatever it was.
+// Starts a terminal of 24, 36 or 48 rows: every cell blank, the record fresh, whatever it was. Refused, it leaves both.
 #[no_mangle]
-pub extern "C" fn pankholim_start(terminal: &mut Terminal, rows: u8, page: &mut [u16]) -> u8
-    ensures { λ r. ⌜ StartLeaves (started rows (now (page .entry))) r (now (terminal .exit)) (now (page .exit)) ⌝ }
+pub extern "C" fn pankholim_start(terminal: &mut Terminal, rows: usize, page: &mut [u16]) -> u8
+    ensures { λ r. ⌜ StartLeaves (now (terminal .entry)) (started rows (now (page .entry))) r (now (terminal .exit)) (now (page .exit)) ⌝ }
 {
-    let left = by_value::start(rows, page);
+    let left = by_value::start(*terminal, rows, page);
     *terminal = left.terminal;
     left.answer
 }

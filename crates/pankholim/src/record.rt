@@ -82,6 +82,8 @@ pub struct Terminal {
     pub sets: SetsRecord,
     pub saved: SavedRecord,
     pub parser: ParserRecord,
+    // The rest of the 96 bytes: written 0, and not looked at.
+    pub unused: [u8; 3],
 }
 
 // ---- the record of a state
@@ -175,6 +177,7 @@ pub fn record_of(state: State) -> Terminal
     let tabs = stops.flags;
     let margins = core.margins;
     let shift = core.shift;
+    let unused = [0; 3];
     Terminal {
         changed: state.changed,
         values,
@@ -190,5 +193,6 @@ pub fn record_of(state: State) -> Terminal
         sets: sets_record(core.sets),
         saved: saved_record(core.saved),
         parser: parser_record(parser),
+        unused,
     }
 }

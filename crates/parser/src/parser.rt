@@ -1,13 +1,11 @@
 // The parser: where it stands in a sequence, and what a byte asks for.
 use crate::numbers::pick;
 use crate::params::Params;
-use crate::params::take_byte;
 use crate::rules::between;
 use crate::rules::intermediates;
 use crate::rules::takes_parameters;
 use crate::rules::transition;
 ghost use mathlib.Core.Path.{_≡_};
-ghost use Rattle.parser.specs.Params.{withByte};
 ghost use Rattle.parser.specs.Parser as parsing;
 
 // Where the parser stands. The phase tells how many of the intermediates count.
@@ -94,15 +92,6 @@ pub struct Decoded {
     pub action: Action,
 }
 
-// The parameters after a digit or 3B.
-fn with_byte(params: Params, x: u8) -> Params
-    ensures { λ r. ⌜ r ≡ withByte params x ⌝ }
-{
-    let mut values = params.values;
-    let separators = take_byte(&mut values, params.separators, x);
-    Params { separators, values }
-}
-
 // ESC 40 to 5F is the byte 40 higher.
 fn c1_byte(byte: u8) -> u8
     ensures { λ r. ⌜ r ≡ parsing.c1Byte byte ⌝ }
@@ -178,7 +167,7 @@ impl Parser {
             mark: self.mark,
             first: self.first,
             second: self.second,
-            params: with_byte(params, x),
+            params: params.take(x),
         }
     }
 

@@ -3,7 +3,7 @@ use crate::parser::Op;
 use crate::parser::Phase;
 use crate::parser::Transition;
 ghost use mathlib.Core.Path.{_≡_};
-ghost use mathlib.Core.Bool.{Bool, cond};
+ghost use mathlib.Core.Bool.{cond};
 ghost use Prim.Native.Nat.{_<_};
 ghost use lib.Dec.{ltb};
 ghost use Rattle.parser.specs.declared.parser.Phase.the-variants.{Escape};

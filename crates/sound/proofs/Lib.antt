@@ -7,5 +7,6 @@ pub mod SoundEscapes
 pub mod SoundSequences
 pub mod SoundParser
 pub mod Sound
+pub mod SoundWords
 pub mod ReplyLength
 pub mod BoundsLaws

@@ -1,14 +1,17 @@
 -- A byte's step keeps a whole core whole, with as many rows, and its edits stay on the page.
-use mathlib.Core.Path.{_≡_, refl, sym}
-use mathlib.Core.Bool.{Bool, true, false}
+use mathlib.Core.Path.{_≡_, refl}
+use mathlib.Core.Bool.{true, false, not}
 use Prim.Native.Nat.{ℕ}
+use borrow.Author.Tests.{not-true}
 use Rattle.parser.specs.declared.parser.Action.{Action}
 use Rattle.parser.specs.declared.parser.Action.the-variants.{Nothing, Character, Substitute, Control, C1Control, EscapeSequence, ControlSequence}
 use Rattle.vt.specs.declared.core.Core.{Core}
 use Rattle.vt.specs.Whole.{sized, Whole}
 use Rattle.vt.specs.Fresh.{freshCore}
 use Rattle.parser.specs.Parser.{decode}
-use Rattle.dispatch.specs.WrapDue.{clearsWrap, settled}
+use Rattle.parser.proofs.Tests.{and-right, either}
+use Rattle.dispatch.specs.Heard.{isListed, isIgnored, isHeard, heard}
+use Rattle.dispatch.specs.WrapDue.{keepsWrap, clearsWrap}
 use Rattle.vt.specs.Effects.{withParser}
 use Rattle.dispatch.specs.Decide.{effect, executed, decided}
 use Rattle.sound.proofs.SoundParts.{Parts, WrapOf, Good, Sound, settle, parts-of, wrap-of, whole-of, good-quiet}
@@ -18,19 +21,29 @@ use Rattle.sound.proofs.SoundControls.{good-controlled, good-c1}
 use Rattle.sound.proofs.SoundEscapes.{good-escaped, fresh-parts, fresh-wrap}
 use Rattle.sound.proofs.SoundSequences.{good-sequenced}
 
-good-effect : (c : Core) (a : Action) → Parts c → WrapOf c → Good (c .rows) (clearsWrap c a) (effect c a)
-unfolding clearsWrap
-good-effect c Nothing p h = good-quiet c false p (λ e. h)
-good-effect c (Character b) p h = good-printed c b false p h
-good-effect c Substitute p h = good-substituted c false p
-good-effect c (Control b) p h = good-controlled c _ p h b
-good-effect c (C1Control b) p h = good-c1 c _ p h b
-good-effect c (EscapeSequence first second last) p h = good-escaped c _ p h first second last
-good-effect c (ControlSequence mark first second last) p h = good-sequenced c p h (c .parser .params) mark first second last
+-- an action and the policy for it
+abbrev GoodAction : Core → Action → Type 0
+GoodAction c a = Good (c .rows) (not (keepsWrap (c .parser .params) a)) (effect c a)
+
+good-action : (c : Core) (a : Action) → Parts c → WrapOf c → isIgnored c a ≡ false → GoodAction c a
+good-action c Nothing p h n = good-quiet c false p (λ e. h)
+good-action c (Character b) p h n = good-printed c b false p h
+good-action c Substitute p h n = good-substituted c false p
+good-action c (Control b) p h n = good-controlled c _ p h b
+good-action c (C1Control b) p h n = good-c1 c _ p h b
+good-action c (EscapeSequence first second last) p h n = good-escaped c _ p h first second last
+good-action c (ControlSequence mark first second last) p h n = good-sequenced c p h (c .parser .params) mark first second last n
+
+-- what is not heard is nothing
+good-heard : (c : Core) (a : Action) → Parts c → WrapOf c → GoodAction c (heard c a)
+good-heard c a p h =
+    either (GoodAction c) (isHeard c a)
+    (λ e. good-action c a p h (not-true (isIgnored c a) (and-right (isListed a) (not (isIgnored c a)) e)))
+    (λ e. good-action c Nothing p h refl)
 
 pub executed-sound : (c : Core) (a : Action) → Whole c → Sound (c .rows) (executed c a)
-unfolding executed
-executed-sound c a w = settle (c .rows) (clearsWrap c a) (effect c a) (good-effect c a (parts-of c w) (wrap-of c w))
+unfolding executed clearsWrap
+executed-sound c a w = settle (c .rows) (clearsWrap c a) (effect c (heard c a)) (good-heard c a (parts-of c w) (wrap-of c w))
 
 -- the parser takes the byte first
 read-whole : (c : Core) (b : ℕ) → Whole c → Whole (withParser c (decode (c .parser) b .parser))

@@ -1,12 +1,11 @@
 -- The controls keep a core whole, and their edits stay on the page.
-use mathlib.Core.Path.{_≡_, refl, sym}
-use mathlib.Core.Bool.{Bool, true, false, cond, false≢true}
-use Prim.Native.Nat.{ℕ, _+_, _-_, _≤_, _<_}
+use mathlib.Core.Path.{_≡_, refl}
+use mathlib.Core.Bool.{Bool, false}
+use Prim.Native.Nat.{ℕ, _-_}
 use native.Mathlib.Omega.{arith}
 use lib.Dec.{eqb}
 use Rattle.cells.specs.declared.Edit.{Edit}
 use Rattle.cells.specs.Edits.{Within}
-use Rattle.device.specs.declared.charsets.Register.{Register}
 use Rattle.device.specs.declared.charsets.Register.the-variants.{G0, G1}
 use Rattle.device.specs.declared.charsets.Sets.{Sets}
 use Rattle.device.specs.declared.charsets.SingleShift.{SingleShift}
@@ -14,15 +13,14 @@ use Rattle.device.specs.declared.charsets.SingleShift.the-variants.{Ss2, Ss3}
 use Rattle.device.specs.declared.tabs.Tabs.{Tabs}
 use Rattle.device.specs.declared.cursor.Cursor.{Cursor}
 use Rattle.vt.specs.declared.core.Core.{Core}
-use Rattle.vt.specs.declared.core.Decision.{Decision}
 use Rattle.device.specs.Charsets.{withGl}
 use Rattle.device.specs.Tabs.{withTab}
 use Rattle.device.specs.Cursor.{left, tab, toColumn, index, reverseIndex}
 use Rattle.vt.specs.Printing.{indexEdit}
-use Rattle.vt.specs.Controls.{indexFrom, indexed, nextLined, lineFed, reverseIndexEdit, reverseIndexed, backspaced, tabbed, returned, tabSet, controlled, c1Controlled}
+use Rattle.vt.specs.Controls.{indexFrom, indexed, nextLined, lineFed, reverseIndexEdit, reverseIndexed, backspaced, tabbed, returned, controlled, c1Controlled}
 use Rattle.vt.specs.Effects.{withCursor, withTabs, withSets, withShift, only, quiet}
 use Rattle.parser.proofs.Tests.{either}
-use Rattle.sound.proofs.SoundParts.{OnPage, Scrolls, Parts, WrapOf, Good, good-only, good-quiet, no-wrap}
+use Rattle.sound.proofs.SoundParts.{Parts, WrapOf, Good, good-only, good-quiet, no-wrap}
 use Rattle.sound.proofs.SoundMoves.{Fine, own, with-cursor, fine-start, fine-left, fine-index, fine-reverse-index, fine-tab}
 use Rattle.sound.proofs.SoundPrinting.{margins-fit, index-within}
 

@@ -1,29 +1,28 @@
 -- Escape sequences keep a core whole, and their edits stay on the page.
-use mathlib.Core.Path.{_≡_, refl, sym}
+use mathlib.Core.Path.{_≡_, refl}
 use mathlib.Core.Bool.{Bool, true, false, cond, _&&_, false≢true}
-use Prim.Native.Nat.{ℕ, _+_, _-_, _*_, _≤_, _<_, min, max}
+use Prim.Native.Nat.{ℕ, _-_, _*_, min, max}
 use native.Mathlib.Omega.{arith}
 use lib.Dec.{eqb}
 use Rattle.cells.specs.declared.CharSet.the-variants.{Ascii, SpecialGraphics, Supplemental, Latin1}
 use Rattle.cells.specs.declared.Edit.the-variants.{Fill}
 use Rattle.cells.specs.Edits.{RunFits}
-use Rattle.cells.specs.Cells.{plainCell, packed, blank}
+use Rattle.cells.specs.Cells.{plainCell, packed}
 use Rattle.device.specs.declared.charsets.Register.{Register}
 use Rattle.device.specs.declared.charsets.Register.the-variants.{G0, G1, G2, G3}
 use Rattle.parser.specs.declared.parser.Phase.the-variants.{Ground}
 use Rattle.vt.specs.declared.core.Core.{Core}
-use Rattle.vt.specs.declared.core.Decision.{Decision}
 use Rattle.vt.specs.Whole.{sized}
 use Rattle.parser.specs.WholeParser.{WholeParser}
 use Rattle.device.specs.Charsets.{designated, withGl, withGr}
 use Rattle.parser.specs.Parser.{cleared}
-use Rattle.device.specs.Cursor.{place, restore}
+use Rattle.device.specs.Cursor.{place}
 use Rattle.vt.specs.Fresh.{freshCore}
 use Rattle.vt.specs.Escapes.{saveCursor, restoreCursor, alignScreen, reset, withEightbit, designate94, designate96, plainEscape, spaceEscape, hashEscape, escaped}
-use Rattle.vt.specs.Effects.{withCursor, withMargins, withSaved, only, quiet}
+use Rattle.vt.specs.Effects.{withCursor, withMargins}
 use Rattle.parser.proofs.Tests.{either, and-left, and-right}
-use Rattle.sound.proofs.Wholeness.{RowCount, row-count, facts}
-use Rattle.sound.proofs.SoundParts.{OnPage, Scrolls, OriginHeld, SavedHeld, Held, Parts, WrapHeld, WrapOf, Good, Sound, good-only, good-quiet, no-wrap}
+use Rattle.sound.proofs.Wholeness.{RowCount, row-count}
+use Rattle.sound.proofs.SoundParts.{OnPage, Scrolls, OriginHeld, SavedHeld, Held, Parts, WrapOf, Good, good-only, good-quiet, no-wrap}
 use Rattle.sound.proofs.SoundControls.{good-sets, good-same}
 
 -- ---- fresh

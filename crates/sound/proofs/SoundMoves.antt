@@ -1,18 +1,18 @@
 -- The cursor's moves keep it on the page, and with origin on between the margins.
-use mathlib.Core.Path.{_≡_, refl, sym}
-use mathlib.Core.Bool.{Bool, true, false, cond, _||_, false≢true}
-use Prim.Native.Nat.{ℕ, zero, suc, _+_, _-_, _≤_, _<_, min, max}
+use mathlib.Core.Path.{_≡_, refl}
+use mathlib.Core.Bool.{Bool, true, false, cond, _||_}
+use Prim.Native.Nat.{ℕ, _+_, _-_, _≤_, _<_, min, max}
 use native.Mathlib.Omega.{arith}
 use lib.Dec.{eqb, leb, ltb}
-use borrow.Author.Tests.{eqb-true, eqb-false, leb-true, leb-false, ltb-true, ltb-false}
+use borrow.Author.Tests.{eqb-false, leb-true, leb-false, ltb-true, ltb-false}
 use Rattle.device.specs.declared.cursor.Cursor.{Cursor}
-use Rattle.device.specs.declared.tabs.Tabs.{Tabs}
 use Rattle.vt.specs.declared.core.Core.{Core}
-use Rattle.device.specs.Tabs.{isTab, nextAmong, nextTab}
-use Rattle.device.specs.Cursor.{place, up, down, left, right, toColumn, tab, index, reverseIndex, advance, restore}
+use Rattle.device.specs.Tabs.{nextTab}
+use Rattle.device.specs.Cursor.{place, up, down, left, right, toColumn, tab, index, reverseIndex, advance}
 use Rattle.vt.specs.Effects.{withCursor}
+use Rattle.device.proofs.TabLaws.{next-low, next-high}
 use Rattle.parser.proofs.Tests.{either}
-use Rattle.sound.proofs.SoundParts.{OnPage, Scrolls, OriginHeld, Parts, WrapHeld, WrapOf, no-wrap}
+use Rattle.sound.proofs.SoundParts.{OnPage, OriginHeld, Parts, WrapHeld, no-wrap}
 
 -- a cursor that a core may have, but for wrap due
 pub record Fine (c : Core) (u : Cursor) : Type 0 where
@@ -24,16 +24,6 @@ own c p = record { place = p .cursor; origin = p .origin }
 
 pub with-cursor : (c : Core) (u : Cursor) → Parts c → Fine c u → Parts (withCursor c u)
 with-cursor c u p f = record { size = p .size; count = p .count; cursor = f .place; margins = p .margins; origin = f .origin; saved = p .saved; parser = p .parser }
-
-next-low : (n : ℕ) (t : Tabs) (k : ℕ) → k ≤ nextAmong n t k
-unfolding nextAmong
-next-low zero t k = omega arith
-next-low (suc n) t k = either (λ (x : ℕ). k ≤ x) (isTab t (suc k)) (λ e. omega arith) (λ e. let l = next-low n t (suc k) in omega arith)
-
-next-high : (n : ℕ) (t : Tabs) (k : ℕ) → nextAmong n t k ≤ k + n
-unfolding nextAmong
-next-high zero t k = omega arith
-next-high (suc n) t k = either (λ (x : ℕ). x ≤ k + suc n) (isTab t (suc k)) (λ e. omega arith) (λ e. let h = next-high n t (suc k) in omega arith)
 
 module _ (c : Core) (u : Cursor) (p : Parts c) (f : Fine c u) where
   -- the row stays

@@ -1,25 +1,21 @@
 -- Reading a byte keeps the parser whole.
 use mathlib.Core.Path.{_≡_, refl, sym, _∙_, subst}
-use mathlib.Core.Bool.{Bool, true, false, cond, _&&_, _||_, false≢true}
+use mathlib.Core.Bool.{Bool, true, false, cond, _||_, false≢true}
 use mathlib.Core.List.{List, [], _∷_}
-use Prim.Native.Nat.{ℕ, zero, suc, _+_, _-_, _*_, _≤_, _<_, min, max}
-use native.Mathlib.Numerals.{add-one}
+use Prim.Native.Nat.{ℕ, zero, suc, _+_, _-_, _*_, _≤_, min}
 use native.Mathlib.Omega.{arith}
 use lib.Dec.{eqb, leb, ltb}
 use lib.ListN.{getD, take, set}
-use borrow.Author.Tests.{leb-true, leb-false, le-leb, ltb-true, ltb-false, eqb-true, eqb-false}
+use borrow.Author.Tests.{leb-false, le-leb, ltb-true, ltb-false}
 use Rattle.parser.specs.declared.params.Params.{Params}
 use Rattle.parser.specs.declared.parser.Phase.{Phase}
 use Rattle.parser.specs.declared.parser.Phase.the-variants.{Ground, Escape, EscapeOne, EscapeTwo, EscapeIgnore, CsiEntry, CsiParam, CsiOne, CsiTwo, CsiIgnore, StringText}
-use Rattle.parser.specs.declared.parser.Op.{Op}
-use Rattle.parser.specs.declared.parser.Op.the-variants.{Ignore, Execute}
 use Rattle.parser.specs.declared.parser.Transition.{Transition}
 use Rattle.parser.specs.declared.parser.Parser.{Parser}
 use Rattle.parser.specs.Params.{paramCount, paramList, withDigit, withSeparator, allAtMost}
-use Rattle.parser.specs.Parser.{between, intermediates, inPhase, marked, collected, gathered, cleared, kept, opensString, c1Rule, parameterRule, intermediateRule, sequenceRule, lowered, inSequence, phaseRule, transition, decode}
+use Rattle.parser.specs.Parser.{between, intermediates, inPhase, marked, collected, gathered, kept, opensString, c1Rule, parameterRule, intermediateRule, sequenceRule, lowered, inSequence, phaseRule, transition, decode}
 use Rattle.parser.specs.WholeParser.{implies, WholeParser}
-use Rattle.parser.proofs.Tests.{either, and-left, and-right, and-both, in-between, between-low, between-high}
-use Rattle.sound.proofs.SoundEscapes.{cleared-whole}
+use Rattle.parser.proofs.Tests.{either, and-left, and-right, and-both, in-between}
 
 -- ---- parameters
 

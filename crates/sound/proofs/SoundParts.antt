@@ -1,8 +1,7 @@
 -- Wholeness part by part, and what is shown of each function: its core is whole but for wrap due, its edits stay on the page.
-use mathlib.Core.Path.{_≡_, refl, sym}
+use mathlib.Core.Path.{_≡_, refl}
 use mathlib.Core.Bool.{Bool, true, false, false≢true}
-use Prim.Native.Nat.{ℕ, _+_, _-_, _≤_, _<_, min, max}
-use native.Mathlib.Omega.{arith}
+use Prim.Native.Nat.{ℕ, _-_, _≤_, _<_}
 use Rattle.cells.specs.declared.Edit.{Edit}
 use Rattle.cells.specs.Edits.{Within}
 use Rattle.parser.specs.declared.parser.Parser.{Parser}
@@ -12,7 +11,7 @@ use Rattle.vt.specs.Whole.{sized, Whole}
 use Rattle.parser.specs.WholeParser.{WholeParser}
 use Rattle.dispatch.specs.WrapDue.{settled}
 use Rattle.vt.specs.Effects.{only, quiet}
-use Rattle.sound.proofs.Wholeness.{RowCount, row-count}
+use Rattle.sound.proofs.Wholeness.{RowCount}
 
 pub record OnPage (r row column : ℕ) : Type 0 where
   pub row-low : 1 ≤ row

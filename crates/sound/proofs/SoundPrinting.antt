@@ -1,20 +1,17 @@
 -- Printing keeps a core whole, and its edits stay on the page.
-use mathlib.Core.Path.{_≡_, refl, sym}
-use mathlib.Core.Bool.{Bool, true, false, cond, false≢true}
-use Prim.Native.Nat.{ℕ, _+_, _-_, _*_, _%_, _≤_, _<_}
+use mathlib.Core.Path.{refl}
+use mathlib.Core.Bool.{Bool}
+use Prim.Native.Nat.{ℕ, _-_, _%_}
 use native.Mathlib.Omega.{arith}
-use lib.Dec.{eqb, leb, ltb}
-use Rattle.cells.specs.declared.CharSet.{CharSet}
+use lib.Dec.{eqb}
 use Rattle.cells.specs.declared.CharSet.the-variants.{Ascii}
-use Rattle.cells.specs.declared.Edit.{Edit}
 use Rattle.cells.specs.Edits.{Within, RowsFit}
 use Rattle.device.specs.declared.charsets.SingleShift.the-variants.{NoShift}
 use Rattle.device.specs.declared.cursor.Cursor.{Cursor}
 use Rattle.vt.specs.declared.core.Core.{Core}
-use Rattle.vt.specs.declared.core.Decision.{Decision}
-use Rattle.device.specs.Cursor.{toColumn, index, advance}
-use Rattle.vt.specs.Printing.{usedSet, skipped, shownSet, cellWord, indexEdit, putEdit, advanced, lineStart, nextLine, wrapAndPut, putHere, put, printed, substituted}
-use Rattle.vt.specs.Effects.{withCursor, withShift}
+use Rattle.device.specs.Cursor.{advance}
+use Rattle.vt.specs.Printing.{usedSet, skipped, shownSet, cellWord, indexEdit, putEdit, lineStart, nextLine, wrapAndPut, putHere, put, printed, substituted}
+use Rattle.vt.specs.Effects.{withShift}
 use Rattle.parser.proofs.Tests.{either}
 use Rattle.sound.proofs.SoundParts.{OnPage, Scrolls, Parts, WrapOf, Good, good-quiet}
 use Rattle.sound.proofs.SoundMoves.{Fine, own, with-cursor, fine-start, fine-index, fine-advance, advance-wrap}

@@ -1,30 +1,31 @@
 -- Control sequences keep a core whole, and their edits stay on the page.
 use mathlib.Core.Path.{_≡_, refl, sym, _∙_}
-use mathlib.Core.Bool.{Bool, true, false, cond, _&&_, _||_, false≢true}
+use mathlib.Core.Bool.{Bool, true, false, cond, not, _&&_, _||_, false≢true, Bool·not-not}
 use mathlib.Core.List.{List, [], _∷_}
 use Prim.Native.Nat.{ℕ, _+_, _-_, _*_, _≤_, _<_, min, max}
 use native.Mathlib.Omega.{arith}
 use lib.Dec.{eqb, leb, ltb}
-use borrow.Author.Tests.{leb-true, ltb-true, ltb-false, eqb-false, ne-eqb}
+use borrow.Author.Tests.{leb-true, ltb-true, ltb-false, eqb-true, eqb-false, ne-eqb}
 use Rattle.cells.specs.declared.Edit.{Edit}
-use Rattle.cells.specs.declared.Edit.the-variants.{InsertCells, DeleteCells, ScrollUp, ScrollDown, Fill}
+use Rattle.cells.specs.declared.Edit.the-variants.{Fill}
 use Rattle.cells.specs.Cells.{blank}
 use Rattle.cells.specs.Edits.{Within, RowsFit, CellsFit, RunFits}
 use Rattle.parser.specs.declared.params.Params.{Params}
 use Rattle.vt.specs.declared.core.Core.{Core}
-use Rattle.vt.specs.declared.core.Decision.{Decision}
 use Rattle.parser.specs.Params.{param, paramN, paramList, member}
 use Rattle.device.specs.Tabs.{withoutTab, noTabs}
 use Rattle.device.specs.Cursor.{place, up, down, left, right, toColumn, offset}
-use Rattle.vt.specs.Escapes.{withOrigin}
 use Rattle.vt.specs.Fresh.{freshCore}
-use Rattle.csi.specs.Sequences.{cursorUp, cursorDown, cursorRight, cursorLeft, rowAt, cursorPosition, erased, toBlank, toSpace, inPage, inRow, rowStart, eraseCharacters, insideMargins, rowsBelow, cellsRight, insertLines, deleteLines, insertCharacters, deleteCharacters, folded, clearTabs, ansiMode, originMode, decMode, ansiModes, decModes, withInsert, withNewline, withAutowrap, withShown, rendered, selectRendition, selectProtection, askedMargins, marginsTaken, setMargins, softReset, plainSequence, markedSequence, sequenced}
+use Rattle.csi.specs.Sequences.{cursorUp, cursorDown, cursorRight, cursorLeft, rowAt, cursorPosition, erased, toBlank, toSpace, inPage, inRow, rowStart, eraseCharacters, rowsBelow, cellsRight, folded, clearTabs, ansiMode, originMode, decMode, ansiModes, decModes, rendered, selectProtection, askedMargins, marginsTaken, setMargins, softReset, plainSequence, markedSequence, sequenced}
 use Rattle.parser.specs.Families.{isPlain, isMarked, isProtection, isSoftReset}
-use Rattle.dispatch.specs.WrapDue.{plainClears, markedClears}
-use Rattle.vt.specs.Effects.{withCursor, withMargins, withModes, withRendition, withProtected, only, quiet}
+use Rattle.dispatch.specs.Heard.{insideMargins, isSecondary, plainIgnored, markedIgnored, ignoredSequence}
+use Rattle.dispatch.specs.WrapDue.{keepingFinals, markedKeeps, sequenceKeeps}
+use Rattle.vt.specs.Effects.{withCursor, withMargins, withRendition, withProtected, only, quiet}
 use Rattle.parser.proofs.Tests.{either, and-left, and-right, at-number, or-left, or-right}
-use Rattle.sound.proofs.SoundParts.{OnPage, Scrolls, OriginHeld, Held, Parts, WrapHeld, WrapOf, Good, good-only, good-quiet, no-wrap}
-use Rattle.sound.proofs.SoundMoves.{Fine, own, with-cursor, fine-start, fine-up, fine-down, fine-left, fine-right}
+use Rattle.dispatch.proofs.HeardLaws.{not-false}
+use Rattle.dispatch.proofs.WrapLaws.{reset-clears}
+use Rattle.sound.proofs.SoundParts.{OnPage, Scrolls, OriginHeld, Parts, WrapOf, Good, good-only, good-quiet, no-wrap}
+use Rattle.sound.proofs.SoundMoves.{own, fine-start, fine-up, fine-down, fine-left, fine-right}
 use Rattle.sound.proofs.SoundControls.{good-moved, good-tabs, good-same}
 use Rattle.sound.proofs.SoundEscapes.{home-on, full, origin-off, saved-home}
 
@@ -80,10 +81,7 @@ module _ (c : Core) (t : Bool) (p : Parts c) where
   module _ (h : WrapOf c) where
     good-erased : (s base end : ℕ) (edit : ℕ → ℕ → Edit) → ((a z : ℕ) → RunFits (c .rows) a z → Within (c .rows) (edit a z))
         → base ≤ offset (c .cursor) → offset (c .cursor) < end → end ≤ 80 * c .rows → Good (c .rows) t (erased c s base end edit)
-    good-erased s base end edit fits low high on =
-        either (Good (c .rows) t) (leb s 2)
-        (λ e. good-only c t _ p (λ _. h) (fits _ _ (run-fits s base end low high on)))
-        (λ e. good-same c t p h)
+    good-erased s base end edit fits low high on = good-only c t _ p (λ _. h) (fits _ _ (run-fits s base end low high on))
 
     good-page : (s : ℕ) (edit : ℕ → ℕ → Edit) → ((a z : ℕ) → RunFits (c .rows) a z → Within (c .rows) (edit a z)) → Good (c .rows) t (inPage c s edit)
     good-page s edit fits = good-erased s 0 (80 * c .rows) edit fits (omega arith) page-on (omega arith)
@@ -118,13 +116,11 @@ module _ (c : Core) (t : Bool) (p : Parts c) where
         record { row = omega arith; column = omega arith; end = omega arith; count = omega arith }
 
     -- rows move, and the cursor goes to column 1
-    good-lines : (e : Edit) → (insideMargins c ≡ true → Within (c .rows) e) → Good (c .rows) t (cond (insideMargins c) (only (withCursor c (toColumn (c .cursor) 1)) e) (quiet c))
-    good-lines e fits = either (Good (c .rows) t) (insideMargins c)
-        (λ i. good-moved c t p (toColumn (c .cursor) 1) e refl (fine-start c (c .cursor) p (own c p)) (fits i))
-        (λ i. good-same c t p h)
+    good-lines : (e : Edit) → Within (c .rows) e → Good (c .rows) t (only (withCursor c (toColumn (c .cursor) 1)) e)
+    good-lines e fits = good-moved c t p (toColumn (c .cursor) 1) e refl (fine-start c (c .cursor) p (own c p)) fits
 
-    good-cells : (e : Edit) → Within (c .rows) e → Good (c .rows) t (cond (insideMargins c) (only c e) (quiet c))
-    good-cells e fits = either (Good (c .rows) t) (insideMargins c) (λ i. good-only c t e p (λ _. h) fits) (λ i. good-same c t p h)
+    good-cells : (e : Edit) → Within (c .rows) e → Good (c .rows) t (only c e)
+    good-cells e fits = good-only c t e p (λ _. h) fits
 
     -- ---- tabs, rendition, protection
 
@@ -155,16 +151,13 @@ module _ (c : Core) (t : Bool) (p : Parts c) where
       (record { row-low = m .low; row-high = omega arith; column-low = omega arith; column-high = omega arith }, record { low = λ h. omega arith; high = λ h. omega arith })
   margin-home false top bottom m = (home-on (c .rows) (p .count), origin-off _ _ _)
 
-  good-margins : (q : Params) → WrapOf c → Good (c .rows) t (setMargins c q)
-  good-margins q h =
-      either (Good (c .rows) t) (marginsTaken c q)
-      (λ e.
+  good-margins : (q : Params) → marginsTaken c q ≡ true → Good (c .rows) t (setMargins c q)
+  good-margins q e =
       let m = asked-scrolls q e in
       let f = margin-home (c .modes .origin) (askedMargins c q .top) (askedMargins c q .bottom) m in
       good-quiet (withCursor (withMargins c (askedMargins c q)) (place (cond (c .modes .origin) (askedMargins c q .top) 1) 1)) t
       (record { size = p .size; count = p .count; cursor = f .0; margins = m; origin = f .1; saved = p .saved; parser = p .parser })
-      (λ _. no-wrap 1 (c .modes .autowrap)))
-      (λ e. good-same c t p h)
+      (λ _. no-wrap 1 (c .modes .autowrap))
 
 -- wrap due is cleared by the policy
 good-soft-reset : (c : Core) → Parts c → Good (c .rows) true (quiet (softReset c))
@@ -241,8 +234,9 @@ module _ (c : Core) (p : Parts c) (h : WrapOf c) where
 
   -- ---- the sequences
 
-  good-plain : (t : Bool) (q : Params) (last : ℕ) → Good (c .rows) t (plainSequence c q last)
-  good-plain t q last =
+  -- what is not ignored outside T to B is inside, and margins that are not ignored are taken
+  good-plain : (t : Bool) (q : Params) (last : ℕ) → plainIgnored c q last ≡ false → Good (c .rows) t (plainSequence c q last)
+  good-plain t q last n =
       let G = Good (c .rows) t in
       either G (eqb last 0x40) (λ e. good-cells c t p h _ (cells-fit c t p h q))
       (λ _. either G (eqb last 0x41) (λ e. good-up c t p q)
@@ -252,8 +246,8 @@ module _ (c : Core) (p : Parts c) (h : WrapOf c) where
       (λ _. either G (eqb last 0x48) (λ e. good-position c t p q)
       (λ _. either G (eqb last 0x4A) (λ e. good-page c t p h (param q 0) toBlank (λ a z f. f))
       (λ _. either G (eqb last 0x4B) (λ e. good-row c t p h (param q 0) toBlank (λ a z f. f))
-      (λ _. either G (eqb last 0x4C) (λ e. good-lines c t p h _ (lines-fit c t p h q))
-      (λ _. either G (eqb last 0x4D) (λ e. good-lines c t p h _ (lines-fit c t p h q))
+      (λ _. either G (eqb last 0x4C) (λ e. good-lines c t p h _ (lines-fit c t p h q (not-false _ (rw (eqb-true last 0x4C e) at n))))
+      (λ _. either G (eqb last 0x4D) (λ e. good-lines c t p h _ (lines-fit c t p h q (not-false _ (rw (eqb-true last 0x4D e) at n))))
       (λ _. either G (eqb last 0x50) (λ e. good-cells c t p h _ (cells-fit c t p h q))
       (λ _. either G (eqb last 0x58) (λ e. good-erase-characters c t p h q)
       (λ _. either G (eqb last 0x66) (λ e. good-position c t p q)
@@ -261,30 +255,36 @@ module _ (c : Core) (p : Parts c) (h : WrapOf c) where
       (λ _. either G (eqb last 0x68) (λ e. good-ansi t true q)
       (λ _. either G (eqb last 0x6C) (λ e. good-ansi t false q)
       (λ _. either G (eqb last 0x6D) (λ e. good-quiet (withRendition c (folded rendered (c .rendition) (paramList q))) t p (λ _. h))
-      (λ _. either G (eqb last 0x72) (λ e. good-margins c t p q h)
+      (λ _. either G (eqb last 0x72) (λ e. good-margins c t p q (not-false _ (rw (eqb-true last 0x72 e) at n)))
       (λ _. good-same c t p h))))))))))))))))))
 
   -- here the policy has to clear wrap due where autowrap is reset
-  good-marked : (q : Params) (last : ℕ) → Good (c .rows) (markedClears q last) (markedSequence c q last)
+  good-marked : (q : Params) (last : ℕ) → Good (c .rows) (not (markedKeeps q last)) (markedSequence c q last)
   good-marked q last =
-      let G : ℕ → Type 0 = λ n. Good (c .rows) (markedClears q n) (markedSequence c q n) in
-      at-number G last 0x4A (good-page c (leb (param q 0) 2) p h (param q 0) toSpace (λ a z f. f))
-      (λ n1. at-number G last 0x4B (good-row c (leb (param q 0) 2) p h (param q 0) toSpace (λ a z f. f))
-      (λ n2. at-number G last 0x68 (good-dec (member 6 (paramList q)) true q (λ e. folded-keeps WrapOf (decMode true) set-wrap c (paramList q) h))
-      (λ n3. at-number G last 0x6C (good-dec (member 6 (paramList q) || member 7 (paramList q)) false q (λ e. resets-wrap c (paramList q) (or-right (member 6 (paramList q)) (member 7 (paramList q)) e) h))
+      let G : ℕ → Type 0 = λ n. Good (c .rows) (not (markedKeeps q n)) (markedSequence c q n) in
+      let six = member 6 (paramList q) in
+      let seven = member 7 (paramList q) in
+      at-number G last 0x4A (good-page c true p h (param q 0) toSpace (λ a z f. f))
+      (λ n1. at-number G last 0x4B (good-row c true p h (param q 0) toSpace (λ a z f. f))
+      (λ n2. at-number G last 0x68 (good-dec (not (not six)) true q (λ e. folded-keeps WrapOf (decMode true) set-wrap c (paramList q) h))
+      (λ n3. at-number G last 0x6C
+      (good-dec (not (not (six || seven))) false q (λ e. resets-wrap c (paramList q) (or-right six seven (sym (Bool·not-not (six || seven)) ∙ e)) h))
       (λ n4. rw (ne-eqb last 0x4A n1, ne-eqb last 0x4B n2, ne-eqb last 0x68 n3, ne-eqb last 0x6C n4) (good-same c _ p h)))))
 
-  families : (q : Params) (last : ℕ) (i j k l : Bool)
-      → Good (c .rows) (cond i (plainClears c q last) (cond j (markedClears q last) l))
+  families : (q : Params) (last : ℕ) (i j s k l : Bool)
+      → cond i (plainIgnored c q last) (j && markedIgnored q last) ≡ false → (l ≡ true → not (s || k) ≡ true)
+      → Good (c .rows) (not (cond i (member last keepingFinals) (cond j (markedKeeps q last) (s || k))))
       (cond i (plainSequence c q last) (cond j (markedSequence c q last) (cond k (selectProtection c q) (cond l (quiet (softReset c)) (quiet c)))))
-  families q last true j k l = good-plain (plainClears c q last) q last
-  families q last false true k l = good-marked q last
-  families q last false false true l = good-protection c l p h q
-  families q last false false false true = good-soft-reset c p
-  families q last false false false false = good-same c false p h
+  families q last true j s k l n f = good-plain _ q last n
+  families q last false true s k l n f = good-marked q last
+  families q last false false s true l n f = good-protection c _ p h q
+  families q last false false s false true n f = rw (f refl) (good-soft-reset c p)
+  families q last false false s false false n f = good-same c _ p h
 
-  pub good-sequenced : (q : Params) (mark first second last : ℕ)
-      → Good (c .rows) (cond (isPlain mark first second) (plainClears c q last) (cond (isMarked mark first second) (markedClears q last) (isSoftReset mark first second last)))
-      (sequenced c q mark first second last)
+  pub good-sequenced : (q : Params) (mark first second last : ℕ) → ignoredSequence c q mark first second last ≡ false
+      → Good (c .rows) (not (sequenceKeeps q mark first second last)) (sequenced c q mark first second last)
   unfolding sequenced
-  good-sequenced q mark first second last = families q last (isPlain mark first second) (isMarked mark first second) (isProtection mark first second last) (isSoftReset mark first second last)
+  good-sequenced q mark first second last n =
+      families q last (isPlain mark first second) (isMarked mark first second)
+      (isSecondary mark first second last) (isProtection mark first second last) (isSoftReset mark first second last) n
+      (reset-clears mark first second last)

@@ -1,19 +1,15 @@
 -- A whole core: the test and the facts say the same, and the facts part by part.
-use mathlib.Core.Path.{_≡_, refl, sym}
-use mathlib.Core.Bool.{Bool, true, false, _&&_, _||_, false≢true}
-use mathlib.Core.List.{List, [], _∷_}
-use Prim.Native.Nat.{ℕ, zero, suc, _≤_, _<_}
+use mathlib.Core.Path.{_≡_}
+use mathlib.Core.Bool.{true, _&&_, _||_}
+use Prim.Native.Nat.{ℕ, _≤_}
 use native.Mathlib.Omega.{arith}
 use lib.Dec.{eqb, leb, ltb}
 use borrow.Author.Tests.{leb-true, le-leb, ltb-true, lt-ltb, eqb-true, eq-eqb}
-use Rattle.device.specs.declared.cursor.Cursor.{Cursor}
 use Rattle.parser.specs.declared.parser.Parser.{Parser}
-use Rattle.vt.specs.declared.core.Margins.{Margins}
 use Rattle.vt.specs.declared.core.Core.{Core}
-use Rattle.parser.specs.Params.{paramList, allAtMost}
-use Rattle.parser.specs.Parser.{between, intermediates}
+use Rattle.parser.specs.Parser.{between}
 use Rattle.vt.specs.Whole.{sized, coreTests, wholeCore, Whole}
-use Rattle.parser.specs.WholeParser.{implies, all, parserTests, WholeParser}
+use Rattle.parser.specs.WholeParser.{all, parserTests, WholeParser}
 use Rattle.parser.proofs.Tests.{and-left, and-right, and-both, or-cases, all-at, implied, implying, between-low, between-high, in-between}
 
 pub record RowCount (r : ℕ) : Type 0 where

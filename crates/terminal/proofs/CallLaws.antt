@@ -1,8 +1,8 @@
 -- Each call's definition, by case.
 use mathlib.Core.Path.{_≡_, refl, sym, ap, _∙_, subst}
-use mathlib.Core.Bool.{Bool, true, false, cond, _&&_, false≢true}
-use mathlib.Core.List.{List, [], _∷_}
-use Prim.Native.Nat.{ℕ, _*_, _^_, _≤_, _<_}
+use mathlib.Core.Bool.{Bool, true, false, cond, false≢true}
+use mathlib.Core.List.{List}
+use Prim.Native.Nat.{ℕ, _*_, _^_, _≤_}
 use lib.Dec.{eqb, ltb}
 use lib.ListN.{length}
 use borrow.Author.Tests.{eq-eqb, ne-eqb, eqb-true, eqb-false, ltb-true, lt-ltb}
@@ -12,7 +12,7 @@ use Rattle.parser.proofs.Tests.{and-left, and-right, and-both, between-low, bet
 use Rattle.sound.proofs.Wholeness.{facts, tested}
 use Rattle.terminal.specs.declared.State.{State}
 use Rattle.terminal.specs.declared.Answer.{Answer}
-use Rattle.terminal.specs.declared.Answer.the-variants.{Done, Broken, WrongSize, NoRoom, OffPage}
+use Rattle.terminal.specs.declared.Answer.the-variants.{Done, Broken, WrongSize, NoRoom}
 use Rattle.terminal.specs.Answers.{number, refusal}
 use Rattle.terminal.specs.Whole.{wholeState, WholeState}
 use Rattle.terminal.specs.Start.{startAnswer, startGives, started}

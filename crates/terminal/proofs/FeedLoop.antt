@@ -1,24 +1,21 @@
 -- What the loop over the input keeps: the bytes read so far have been done, and their replies sent.
 use mathlib.Core.Path.{_≡_, refl, sym, ap, ap₂, _∙_, subst}
-use mathlib.Core.Bool.{Bool, true, false, cond}
 use mathlib.Core.List.{List, [], _∷_, _++_, append-nil}
-use Prim.Native.Nat.{ℕ, zero, suc, _+_, _-_, _*_, _^_, _≤_, _<_, zero-le}
+use Prim.Native.Nat.{ℕ, suc, _+_, _-_, _*_, _^_, _≤_, _<_, zero-le}
 use native.Mathlib.Numerals.{add-one}
 use native.Mathlib.Nat.{zero-add, add-zero}
 use native.Mathlib.Omega.{arith}
 use lib.Bits.{bitOr}
-use lib.Dec.{ltb}
 use lib.ListN.{length, getD, take, drop, drop-of-length-le}
 use lib.Seq.{take-suc, drop-cons}
 use borrow.Author.Tests.{le-ltb, lt-ltb}
 use Rattle.cells.specs.declared.Edit.{Edit}
-use Rattle.cells.specs.Sets.{bitsOf, added, changed}
+use Rattle.cells.specs.Sets.{bitsOf, changed}
 use Rattle.cells.specs.Edits.{applied, Within}
 use Rattle.cells.proofs.BitLaws.{or-added, added-lt}
 use Rattle.cells.proofs.EditLaws.{length-applied}
 use Rattle.vt.specs.declared.core.Core.{Core}
 use Rattle.vt.specs.declared.core.Decision.{Decision}
-use Rattle.vt.specs.Whole.{Whole}
 use Rattle.dispatch.specs.Decide.{decided, sends}
 use Rattle.cells.specs.Writes.{Wrote}
 use Rattle.cells.proofs.Writing.{wrote-none, wrote-more}
@@ -28,7 +25,6 @@ use Rattle.terminal.specs.declared.State.{State}
 use Rattle.terminal.specs.declared.Answer.{Answer}
 use Rattle.terminal.specs.declared.Answer.the-variants.{Done, NoRoom}
 use Rattle.terminal.specs.Steps.{Screen, Marked, edited, stepped, ran, ranCore, sent, readable}
-use Rattle.terminal.specs.Answers.{number}
 use Rattle.terminal.specs.Feed.{readCount, fitting, screen, feedAs, feedFirst}
 use Rattle.terminal.specs.Ready.{Ready}
 use Rattle.terminal.proofs.StepLaws.{ran-append, ran-core, sent-append, readable-fits, readable-full, edited-page, edited-changed, Sane, sane-step}

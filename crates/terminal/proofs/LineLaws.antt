@@ -41,6 +41,7 @@ use Rattle.vt.specs.Effects.{withCursor, withParser, withShift, only, quiet}
 use Rattle.vt.specs.Controls.{nextLined, indexed, controlled}
 use Rattle.vt.specs.Printing.{usedSet, skipped, indexEdit, glyph, advanced, wrapAndPut, putHere, put, printed}
 use Rattle.dispatch.specs.Replies.{replyTo}
+use Rattle.dispatch.proofs.HeardLaws.{reply-heard}
 use Rattle.dispatch.specs.WrapDue.{clearsWrap, settled}
 use Rattle.dispatch.specs.Decide.{executed, decided, sends}
 use Rattle.sound.proofs.Sound.{decided-sound}
@@ -175,8 +176,10 @@ control-decides c b h l = sym (ap (λ (d : Decoded). executed (withParser c (d .
 
 -- a control sends nothing
 pub control-silent : (c : Core) (b : ℕ) → plainly c ≡ true → b < 0x18 → sends c b ≡ []
-unfolding sends replyTo replyBytes
-control-silent c b h l = ap (λ (d : Decoded). replyBytes (c .modes .eightbit) (replyTo c (d .action))) (control-decode (c .parser) b (plain-ground c h) l)
+unfolding sends replyBytes
+control-silent c b h l =
+    ap (λ (d : Decoded). replyBytes (c .modes .eightbit) (replyTo c (d .action))) (control-decode (c .parser) b (plain-ground c h) l)
+    ∙ ap (replyBytes (c .modes .eightbit)) (sym (reply-heard c (Control b)))
 
 -- CR
 pub return-decides : (c : Core) → plainly c ≡ true → only (withCursor c (toColumn (c .cursor) 1)) Keep ≡ decided c 0x0D

@@ -1,23 +1,22 @@
 -- Bytes one after the other: the laws of a run over appended input, and what a step keeps.
-use mathlib.Core.Path.{_≡_, refl, sym, ap, ap₂, _∙_, subst}
+use mathlib.Core.Path.{_≡_, refl, sym, ap, _∙_, subst}
 use mathlib.Core.Bool.{Bool, true, false, cond, _||_, or-false}
 use mathlib.Core.List.{List, [], _∷_, _++_, append-assoc}
-use Prim.Native.Nat.{ℕ, zero, suc, _+_, _-_, _*_, _^_, _≤_, _<_, zero-le}
+use Prim.Native.Nat.{ℕ, suc, _+_, _-_, _*_, _^_, _≤_, _<_, zero-le}
 use native.Mathlib.Omega.{arith}
 use lib.Dec.{ltb}
 use lib.ListN.{length, take, length-append}
-use borrow.Author.Tests.{lt-ltb, le-ltb, ltb-true, ltb-false}
+use borrow.Author.Tests.{lt-ltb, le-ltb, ltb-false}
 use Rattle.cells.specs.declared.Edit.{Edit}
 use Rattle.cells.specs.declared.Edit.the-variants.{Keep, Put, InsertCells, DeleteCells, ScrollUp, ScrollDown, Fill, SelectiveErase}
 use Rattle.cells.specs.Rows.{row}
-use Rattle.cells.specs.Sets.{hasBit, bitsOf, added, changed, changedIn}
-use Rattle.cells.specs.Edits.{applied, isKeep, Within}
+use Rattle.cells.specs.Sets.{hasBit, added, changed, changedIn}
+use Rattle.cells.specs.Edits.{applied, Within}
 use Rattle.cells.proofs.Lists.{differs-self}
 use Rattle.cells.proofs.BitLaws.{bits-ext, bits-own, added-lt}
 use Rattle.cells.proofs.RowLaws.{changed-in}
 use Rattle.cells.proofs.EditLaws.{keep-applied, length-applied}
 use Rattle.vt.specs.declared.core.Core.{Core}
-use Rattle.vt.specs.declared.core.Decision.{Decision}
 use Rattle.vt.specs.Whole.{Whole}
 use Rattle.dispatch.specs.Decide.{decided, sends}
 use Rattle.sound.proofs.SoundParts.{Sound}

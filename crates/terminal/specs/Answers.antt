@@ -1,10 +1,10 @@
--- What a call answers (document 01, the section of that name).
+-- What a call answers (SCOPE 2).
 use mathlib.Core.Bool.{Bool, true, false}
 use Prim.Native.Nat.{ℕ}
 use Rattle.terminal.specs.declared.Answer.{Answer}
 use Rattle.terminal.specs.declared.Answer.the-variants.{Done, Broken, WrongSize, NoRoom, OffPage}
 
--- document 01's numbers; a start answers `Broken` for another R than 24, 36 and 48
+-- the numbers of SCOPE 2.1 to 2.5; a start answers `Broken` for another R than 24, 36 and 48
 abbrev pub number : Answer → ℕ
 number Done = 0
 number Broken = 1

@@ -1,5 +1,5 @@
 -- Asking for the changed rows: the set, how many rows are in it, and the state with the set emptied.
-use mathlib.Core.Bool.{Bool, true, false, cond}
+use mathlib.Core.Bool.{cond}
 use Prim.Native.Nat.{ℕ}
 use Rattle.cells.specs.Sets.{sizeOf, hasBit}
 use Rattle.terminal.specs.declared.State.{State}

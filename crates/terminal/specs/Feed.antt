@@ -1,5 +1,5 @@
 -- Feeding bytes: the whole result, and what is left in the page and the reply buffer.
-use mathlib.Core.Bool.{Bool, true, false, cond}
+use mathlib.Core.Bool.{cond}
 use mathlib.Core.List.{List}
 use Prim.Native.Nat.{ℕ}
 use lib.Dec.{ltb}

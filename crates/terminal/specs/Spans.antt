@@ -1,4 +1,4 @@
--- Bytes of an input that were done and sent nothing. A run of them is done at once, where document 01 has a step for each.
+-- Bytes of an input that were done and sent nothing. A run of them is done at once, where SCOPE 4.9 has a step for each.
 use mathlib.Core.Path.{_≡_}
 use mathlib.Core.Bool.{Bool, true, false, cond, not, _&&_, _||_}
 use mathlib.Core.List.{List, []}

@@ -1,5 +1,5 @@
 -- Starting: every cell blank and the state fresh. Refused, it returns the fresh 24-row state and leaves the page.
-use mathlib.Core.Bool.{Bool, true, false, cond}
+use mathlib.Core.Bool.{cond}
 use mathlib.Core.List.{List}
 use Prim.Native.Nat.{ℕ, _*_}
 use lib.ListN.{replicate}

@@ -1,7 +1,7 @@
 -- The byte's step or steps: core, page and changed rows after each byte of an input, and what it sends.
-use mathlib.Core.Bool.{Bool, true, false, cond}
+use mathlib.Core.Bool.{cond}
 use mathlib.Core.List.{List, [], _∷_, _++_}
-use Prim.Native.Nat.{ℕ, zero, suc, _+_, _-_}
+use Prim.Native.Nat.{ℕ, suc, _+_, _-_}
 use lib.Dec.{ltb}
 use lib.ListN.{length}
 use Rattle.cells.specs.declared.Edit.{Edit}

@@ -1,7 +1,6 @@
--- A whole state (document 01, "Whole state"), and a page of its size.
-use mathlib.Core.Bool.{Bool, true, false, _&&_}
+-- A whole state (SCOPE 1.9 to 1.18), and a page of its size.
+use mathlib.Core.Bool.{Bool, _&&_}
 use mathlib.Core.List.{List}
-use mathlib.Core.Path.{_≡_}
 use Prim.Native.Nat.{ℕ, _*_, _^_, _<_}
 use lib.Dec.{eqb, ltb}
 use lib.ListN.{length}

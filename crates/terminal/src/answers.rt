@@ -1,4 +1,4 @@
-// Document 01's number of an answer.
+// The scope's number of an answer.
 use crate::Answer;
 ghost use mathlib.Core.Path.{_≡_};
 ghost use Rattle.terminal.specs.Answers as answers;

@@ -51,7 +51,8 @@ pub fn start(rows: usize, page: &mut [u16]) -> Started
 
 // Feeds bytes from the modem, until the input ends or a reply does not fit.
 pub fn feed(state: State, page: &mut [u16], input: &[u8], reply: &mut [u8]) -> Fed
-    ensures { λ r. ⌜ record { number = number (r .answer); result = r; page = now (page .exit); reply = now (reply .exit) } ≡ fed state (now (page .entry)) (now (input .entry)) (now (reply .entry)) ⌝ }
+    ensures { λ r. ⌜ record { number = number (r .answer); result = r; page = now (page .exit); reply = now (reply .exit) }
+        ≡ fed state (now (page .entry)) (now (input .entry)) (now (reply .entry)) ⌝ }
 {
     if !is_whole(state) {
         return Fed {
@@ -88,7 +89,6 @@ pub fn ask(state: State) -> Asked
     }
     let core = state.core;
     let changed = state.changed;
-    let rows = core.rows;
     Asked {
         answer: Answer::Done,
         rows: changed,

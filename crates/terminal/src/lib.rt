@@ -3,9 +3,9 @@ use vt::core::Core;
 
 pub mod answers;
 pub mod calls;
-pub mod line;
-pub mod run;
-pub mod whole;
+mod line;
+mod run;
+mod whole;
 
 // The changed rows are bits of one number, row 1 the lowest.
 pub struct State {
@@ -13,7 +13,7 @@ pub struct State {
     pub changed: u64,
 }
 
-// What a call answers. Document 01's numbers are in specs/Answers.antt.
+// What a call answers. The numbers are in specs/Answers.antt (SCOPE 2).
 pub enum Answer {
     Done,
     // The state is not whole, or, at a start, there is no page of so many rows.

@@ -9,7 +9,7 @@ use vt::core::Core;
 use vt::printing::glyph;
 use vt::printing::index_edit;
 ghost use mathlib.Core.Path.{_≡_};
-ghost use mathlib.Core.Bool.{Bool, true, cond};
+ghost use mathlib.Core.Bool.{true, cond};
 ghost use Prim.Native.Nat.{_≤_};
 ghost use lib.ListN.{length};
 ghost use Rattle.device.specs.Cursor.{toColumn};

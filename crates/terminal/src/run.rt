@@ -12,8 +12,6 @@ use parser::idle::idle_run;
 use parser::parser::Decoded;
 use vt::core::Core;
 ghost use mathlib.Core.Path.{_≡_};
-ghost use Prim.Native.Nat.{ℕ, _≤_};
-ghost use lib.ListN.{length};
 ghost use Rattle.parser.specs.Parser.{decode};
 ghost use Rattle.terminal.specs.Steps.{stepped};
 ghost use Rattle.terminal.specs.Answers.{number};

@@ -1,7 +1,6 @@
 // Whole states, and pages of their size.
 use crate::State;
 ghost use mathlib.Core.Path.{_≡_};
-ghost use mathlib.Core.Bool.{Bool, true, false};
 ghost use Rattle.terminal.specs.Whole.{wholeState};
 
 pub fn is_whole(state: State) -> bool

@@ -1,8 +1,8 @@
 -- Pages whose text is known, computed from the definitions.
 use mathlib.Core.Path.{_≡_, refl}
 use mathlib.Core.List.{List, [], _∷_, _++_}
-use Prim.Native.Nat.{ℕ, zero, suc}
-use Prim.Native.Char.{Char, code}
+use Prim.Native.Nat.{ℕ}
+use Prim.Native.Char.{code}
 use Prim.Native.String.{String}
 use lib.ListN.{replicate}
 use Rattle.cells.specs.Cells.{unpacked}
@@ -14,7 +14,7 @@ abbrev pub ascii : String → List ℕ
 ascii String.[] = []
 ascii (String._∷_ c s) = code c ∷ ascii s
 
--- document 01: "Hi" gives "Hi" and 23 empty lines
+-- SCOPE 10.8: "Hi" gives "Hi" and 23 empty lines
 pub hi : textOf 24 (0x48 ∷ 0x69 ∷ replicate 1918 0x20) ≡ ascii "Hi" ++ replicate 24 0x0A
 unfolding unpacked sign trimmed encoded lines textOf
 hi = refl

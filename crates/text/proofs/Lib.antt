@@ -3,3 +3,4 @@ pub mod Trimming
 pub mod Encoding
 pub mod TextLaws
 pub mod LineCount
+pub mod SignLaws

@@ -13,32 +13,32 @@ use Rattle.cells.specs.declared.CharSet.the-variants.{Ascii, SpecialGraphics, S
 use Rattle.cells.specs.Cells.{unpacked}
 use Rattle.cells.specs.Rows.{rowsOf}
 use Rattle.cells.proofs.Lists.{split-lt}
-use Rattle.text.specs.Text.{lineDrawing, unshown, itself, graphicSign, signIn, sign, utf8, trimmed, encoded, line, lines, textOf, lineCount}
+use Rattle.text.specs.Text.{lineDrawing, unshown, shownCode, graphicSign, signIn, sign, utf8, trimmed, encoded, line, lines, textOf, lineCount}
 use Rattle.text.proofs.Trimming.{left-signs}
 use Rattle.text.proofs.Encoding.{one-byte, two-bytes, three-bytes}
 
 -- ---- every sign is 20 or more
 
 -- a test that passes at every entry of a table, computed once, holds of each
-abbrev every : (ℕ → Bool) → List ℕ → Bool
+abbrev pub every : (ℕ → Bool) → List ℕ → Bool
 every f [] = true
 every f (x ∷ xs) = f x && every f xs
 
-and-left : (a b : Bool) → (a && b) ≡ true → a ≡ true
+pub and-left : (a b : Bool) → (a && b) ≡ true → a ≡ true
 and-left true b e = refl
 and-left false b e = e
 
-and-right : (a b : Bool) → (a && b) ≡ true → b ≡ true
+pub and-right : (a b : Bool) → (a && b) ≡ true → b ≡ true
 and-right true b e = e
 and-right false b e = absurd (false≢true e)
 
-at : (f : ℕ → Bool) (xs : List ℕ) → every f xs ≡ true → (k : ℕ) → k < length xs → f (getD xs k 0) ≡ true
+pub at : (f : ℕ → Bool) (xs : List ℕ) → every f xs ≡ true → (k : ℕ) → k < length xs → f (getD xs k 0) ≡ true
 at f [] e k h = absurd (omega arith)
 at f (x ∷ xs) e zero h = and-left (f x) (every f xs) e
 at f (x ∷ xs) e (suc k) h = at f xs (and-right (f x) (every f xs) e) k (omega arith)
 
-itself-shown : (x : ℕ) → 0x20 ≤ itself x
-itself-shown x = go (ltb x 0x20) (eqb x 0x7F) refl
+code-shown : (x : ℕ) → 0x20 ≤ shownCode x
+code-shown x = go (ltb x 0x20) (eqb x 0x7F) refl
   where
     go : (a b : Bool) → ltb x 0x20 ≡ a → 0x20 ≤ cond (a || b) unshown x
     go true b e = omega arith
@@ -51,13 +51,13 @@ graphic-shown x h = go (ltb x 0x5F) (eqb x 0x7F) refl refl
     table : x - 0x5F < 32 → 0x20 ≤ getD lineDrawing (x - 0x5F) 0
     table l = leb-true 0x20 (getD lineDrawing (x - 0x5F) 0) (at (leb 0x20) lineDrawing refl (x - 0x5F) l)
 
-    go : (a b : Bool) → ltb x 0x5F ≡ a → eqb x 0x7F ≡ b → 0x20 ≤ cond (a || b) (itself x) (getD lineDrawing (x - 0x5F) 0)
-    go true b e q = itself-shown x
-    go false true e q = itself-shown x
+    go : (a b : Bool) → ltb x 0x5F ≡ a → eqb x 0x7F ≡ b → 0x20 ≤ cond (a || b) (shownCode x) (getD lineDrawing (x - 0x5F) 0)
+    go true b e q = code-shown x
+    go false true e q = code-shown x
     go false false e q = let l = ltb-false x 0x5F e in let n = eqb-false x 0x7F q in table (omega arith)
 
 in-set-shown : (s : CharSet) (x : ℕ) → x < 0x80 → 0x20 ≤ signIn s x
-in-set-shown Ascii x h = itself-shown x
+in-set-shown Ascii x h = code-shown x
 in-set-shown SpecialGraphics x h = graphic-shown x h
 in-set-shown Supplemental x h = omega arith
 in-set-shown Latin1 x h = omega arith

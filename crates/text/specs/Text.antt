@@ -1,5 +1,5 @@
--- The page as text (document 01, the section of that name): a line for each row, trailing U+0020 off, each closed by 0A, in UTF-8.
-use mathlib.Core.Bool.{Bool, true, false, cond, _||_}
+-- The page as text (SCOPE 10): a line for each row, trailing U+0020 off, each closed by 0A, in UTF-8.
+use mathlib.Core.Bool.{cond, _||_}
 use mathlib.Core.List.{List, [], _∷_, _++_, map}
 use Prim.Native.Nat.{ℕ, _+_, _-_, _/_, _%_}
 use lib.Dec.{eqb, leb, ltb}
@@ -7,7 +7,6 @@ use lib.ListN.{length, getD}
 use lib.Seq.{sets}
 use Rattle.cells.specs.declared.CharSet.{CharSet}
 use Rattle.cells.specs.declared.CharSet.the-variants.{Ascii, SpecialGraphics, Supplemental, Latin1}
-use Rattle.cells.specs.declared.Cell.{Cell}
 use Rattle.cells.specs.Cells.{unpacked}
 use Rattle.cells.specs.Rows.{rowsOf}
 use Rattle.text.specs.declared.Written.{Written}
@@ -23,19 +22,19 @@ lineDrawing =
     ∷ 0x23BA ∷ 0x23BB ∷ 0x2500 ∷ 0x23BC ∷ 0x23BD ∷ 0x251C ∷ 0x2524 ∷ 0x2534
     ∷ 0x252C ∷ 0x2502 ∷ 0x2264 ∷ 0x2265 ∷ 0x03C0 ∷ 0x2260 ∷ 0x00A3 ∷ 0x00B7 ∷ []
 
--- "?": Supplemental, and the control codes of ASCII and Special Graphics, which no printing puts into a cell
+-- "?": Supplemental, and the control codes of ASCII and Special Graphics, which no byte puts into a cell
 abbrev pub unshown : ℕ
 unshown = 0x3F
 
--- a code of ASCII, or one of Special Graphics below 5F, is itself
-abbrev pub itself : ℕ → ℕ
-itself x = cond (ltb x 0x20 || eqb x 0x7F) unshown x
+-- a code of ASCII, or one of Special Graphics below 5F: itself, or "?" for a control code
+abbrev pub shownCode : ℕ → ℕ
+shownCode x = cond (ltb x 0x20 || eqb x 0x7F) unshown x
 
 abbrev pub graphicSign : ℕ → ℕ
-graphicSign x = cond (ltb x 0x5F || eqb x 0x7F) (itself x) (getD lineDrawing (x - 0x5F) 0)
+graphicSign x = cond (ltb x 0x5F || eqb x 0x7F) (shownCode x) (getD lineDrawing (x - 0x5F) 0)
 
 abbrev pub signIn : CharSet → ℕ → ℕ
-signIn Ascii x = itself x
+signIn Ascii x = shownCode x
 signIn SpecialGraphics x = graphicSign x
 signIn Supplemental x = unshown
 signIn Latin1 x = 0x80 + x
@@ -92,7 +91,7 @@ pageText p = textOf (length p / 80) p
 
 -- ---- writing it into a buffer
 
--- document 01's numbers
+-- the scope's numbers
 abbrev pub writtenNumber : Written → ℕ
 writtenNumber (Whole n) = 0
 writtenNumber NoRoom = 3

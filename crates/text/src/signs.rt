@@ -2,7 +2,7 @@
 ghost use mathlib.Core.Path.{_≡_};
 ghost use Prim.Native.Nat.{_<_};
 ghost use lib.ListN.{getD};
-ghost use Rattle.text.specs.Text.{lineDrawing, itself, graphicSign, sign};
+ghost use Rattle.text.specs.Text.{lineDrawing, shownCode, graphicSign, sign};
 
 // Special Graphics codes 5F to 7E.
 const LINE_DRAWING: [u16; 32] = [
@@ -50,9 +50,9 @@ fn line_drawing_sign(n: usize) -> u16
     LINE_DRAWING[n]
 }
 
-// A code of ASCII, or one of Special Graphics below 5F, is itself.
-fn plain_sign(code: u16) -> u16
-    ensures { λ r. ⌜ r ≡ itself code ⌝ }
+// What a code of ASCII, or one of Special Graphics below 5F, shows: itself, or "?" for a control code.
+fn shown_code(code: u16) -> u16
+    ensures { λ r. ⌜ r ≡ shownCode code ⌝ }
 {
     if (code < 0x20) | (code == 0x7F) {
         UNSHOWN
@@ -67,7 +67,7 @@ fn graphic_sign(code: u16) -> u16
 {
     match code {
         0x5F..=0x7E => line_drawing_sign((code - 0x5F) as usize),
-        _ => plain_sign(code),
+        _ => shown_code(code),
     }
 }
 
@@ -81,7 +81,7 @@ pub fn sign(word: u16) -> u16
         return 0x2426;
     }
     match word / 128 % 4 {
-        0 => plain_sign(code),
+        0 => shown_code(code),
         1 => graphic_sign(code),
         2 => UNSHOWN,
         _ => 0x80 + code,

@@ -3,8 +3,6 @@ use mathlib.Core.Path.{_≡_, refl}
 use mathlib.Core.Bool.{Bool, true, false, cond}
 use Prim.Native.Nat.{ℕ}
 use Rattle.vt.specs.declared.core.Core.{Core}
-use Rattle.vt.specs.declared.core.Decision.{Decision}
-use Rattle.vt.specs.declared.printing.Stroke.{Stroke}
 use Rattle.device.specs.Cursor.{toColumn, index}
 use Rattle.vt.specs.Printing.{put}
 use Rattle.vt.specs.Strokes.{strokeHere, strokeOn, stroke, struck}

@@ -1,5 +1,5 @@
--- The controls: below 20 and 80 to 9F (document 01, "Functions"). Wrap due is in WrapDue.antt.
-use mathlib.Core.Bool.{Bool, true, false, cond}
+-- The controls: below 20 and 80 to 9F (SCOPE 5.2 to 5.12). Wrap due is in WrapDue.antt.
+use mathlib.Core.Bool.{cond}
 use Prim.Native.Nat.{ℕ, _-_}
 use lib.Dec.{eqb}
 use Rattle.cells.specs.declared.Edit.{Edit}

@@ -1,7 +1,7 @@
--- Escape sequences (document 01, "Functions"). An intermediate that is not there is 0. Wrap due is in WrapDue.antt.
+-- Escape sequences (SCOPE 5.13 to 5.22). An intermediate that is not there is 0. Wrap due is in WrapDue.antt.
 use mathlib.Core.Bool.{Bool, true, false, cond, _&&_}
 use Prim.Native.Nat.{ℕ, _*_}
-use lib.Dec.{eqb, leb}
+use lib.Dec.{eqb}
 use Rattle.cells.specs.declared.CharSet.{CharSet}
 use Rattle.cells.specs.declared.CharSet.the-variants.{Ascii, SpecialGraphics, Supplemental, Latin1}
 use Rattle.cells.specs.declared.Edit.the-variants.{Fill}

@@ -1,5 +1,5 @@
--- The fresh state (document 01, "The page and the state"), but for the changed rows, of which there are none.
-use mathlib.Core.Bool.{Bool, true, false}
+-- The fresh state (SCOPE 1.20 to 1.25), but for the changed rows, of which there are none.
+use mathlib.Core.Bool.{true, false}
 use Prim.Native.Nat.{ℕ}
 use Rattle.cells.specs.Cells.{plain}
 use Rattle.device.specs.declared.charsets.SingleShift.the-variants.{NoShift}

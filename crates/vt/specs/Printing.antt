@@ -1,5 +1,5 @@
--- Printing (document 01, the section of that name).
-use mathlib.Core.Bool.{Bool, true, false, cond, not, _&&_, _||_}
+-- Printing (SCOPE 4).
+use mathlib.Core.Bool.{Bool, cond, not, _&&_, _||_}
 use Prim.Native.Nat.{ℕ, _-_, _%_}
 use lib.Dec.{eqb, ltb}
 use Rattle.cells.specs.declared.CharSet.{CharSet}

@@ -1,5 +1,5 @@
 -- The printing rule by the parts of a core that it reads and changes: the same as `put`, with no core to copy.
-use mathlib.Core.Bool.{Bool, true, false, cond}
+use mathlib.Core.Bool.{Bool, cond}
 use Prim.Native.Nat.{ℕ, _-_}
 use lib.Dec.{eqb}
 use Rattle.cells.specs.declared.Edit.{Edit}

@@ -1,4 +1,4 @@
--- A whole state (document 01, "Whole state"), but for its last clause, on the changed rows: a test and a fact for each clause.
+-- A whole state (SCOPE 1.9 to 1.17; 1.18, on the changed rows, is the terminal's): a test and a fact for each clause.
 use mathlib.Core.Path.{_≡_}
 use mathlib.Core.Bool.{Bool, true, _&&_, _||_}
 use mathlib.Core.List.{List, [], _∷_}

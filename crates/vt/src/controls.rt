@@ -11,7 +11,7 @@ use device::charsets::Register;
 use device::charsets::SingleShift;
 use device::cursor::Cursor;
 ghost use mathlib.Core.Path.{_≡_};
-ghost use mathlib.Core.Bool.{Bool, cond};
+ghost use mathlib.Core.Bool.{cond};
 ghost use Prim.Native.Nat.{_-_, _≤_};
 ghost use lib.Dec.{eqb};
 ghost use Rattle.cells.specs.declared.Edit.the-variants.{Keep, ScrollDown};

@@ -3,17 +3,24 @@
 //! `compare SEED BYTES DIR` writes DIR/stdin (the script) and DIR/stdout (what
 //! this program answers). `compare --check SEED BYTES OUTPUT` compares the file
 //! OUTPUT with what this program answers; exit 0 if they are the same, else 1,
-//! with the first difference. With `words` for SEED the script is only the text
+//! with the first difference. Either exits with 1 if an example of
+//! ../tests/examples is not met by this program, and names its file and line. With `words` for SEED the script is only the text
 //! of every word of a cell.
 
+use reference::examples;
 use reference::plan::{text_of_every_word, whole};
 use reference::script::{commands, Command, Machine, Script};
+use reference::words::{answer_in_words, command_in_words};
 use std::path::Path;
 use std::process::ExitCode;
 
 fn main() -> ExitCode {
     let words: Vec<String> = std::env::args().skip(1).collect();
     let words: Vec<&str> = words.iter().map(|word| word.as_str()).collect();
+    if let Some(fault) = examples::fault() {
+        println!("{fault}");
+        return ExitCode::FAILURE;
+    }
     match words[..] {
         ["--check", seed, bytes, output] => match script_for(seed, bytes) {
             Some(script) => check(&script, Path::new(output)),
@@ -65,6 +72,7 @@ fn write(seed: &str, script: &Script, directory: &Path) -> ExitCode {
     }
     println!("seed          {seed}");
     println!("commands      {}", script.commands);
+    println!("calls         {}", counts.iter().flatten().sum::<usize>());
     println!("input bytes   {}", script.input);
     println!("script bytes  {}", script.bytes.len());
     println!("output bytes  {}", output.len());
@@ -114,8 +122,8 @@ fn check(script: &Script, file: &Path) -> ExitCode {
                 script.commands
             );
             println!("  {}", command_in_words(&command));
-            println!("expected {}", piece_in_words(&piece, piece.len()));
-            println!("found    {}", piece_in_words(&found[place..], piece.len()));
+            println!("expected {}", answer_in_words(&piece, piece.len()));
+            println!("found    {}", answer_in_words(&found[place..], piece.len()));
             if found.len() < place + piece.len() {
                 println!("the output ends there, after {} bytes", found.len());
             }
@@ -150,71 +158,6 @@ fn check(script: &Script, file: &Path) -> ExitCode {
         found.len()
     );
     ExitCode::SUCCESS
-}
-
-fn command_in_words(command: &Command) -> String {
-    let Command { letter, a, b, .. } = command;
-    match letter {
-        b'S' => format!("S: start with R = {a} on {b} words"),
-        b'L' => format!("L: lend {a} words"),
-        b'F' => {
-            let input = bytes_in_words(command.input, 2_000);
-            format!("F: feed {a} bytes with room {b}: {input}")
-        }
-        b'A' => "A: ask".to_string(),
-        b'R' => format!("R: read row {a}, column {b}"),
-        b'P' => "P: page".to_string(),
-        b'T' => "T: text".to_string(),
-        b'W' => format!("W: word {a} is {b:04X}"),
-        b'B' => format!("B: field {a} is {b}"),
-        _ => format!("{}", *letter as char),
-    }
-}
-
-/// Bytes as in a byte string.
-fn bytes_in_words(bytes: &[u8], most: usize) -> String {
-    let shown: String = bytes[..bytes.len().min(most)]
-        .iter()
-        .map(|&byte| match byte {
-            b'"' | b'\\' => format!("\\{}", byte as char),
-            0x20..=0x7E => (byte as char).to_string(),
-            _ => format!("\\x{byte:02X}"),
-        })
-        .collect();
-    let more = if bytes.len() > most { " ..." } else { "" };
-    format!("\"{shown}\"{more}")
-}
-
-/// What a command wrote; `length` is how much the reference wrote.
-fn piece_in_words(bytes: &[u8], length: usize) -> String {
-    let number = |place: usize| {
-        let byte = |place: usize| bytes.get(place).copied().unwrap_or(0) as usize;
-        byte(place) + 256 * byte(place + 1)
-    };
-    let piece = &bytes[..bytes.len().min(length)];
-    match piece {
-        [] => "nothing: the output ends".to_string(),
-        [b'S', answer] => format!("answer {answer}"),
-        [b'F', answer, _, _, _, _, reply @ ..] => {
-            let reply = bytes_in_words(reply, 400);
-            format!(
-                "answer {answer}, {} read, reply length {}, reply buffer {reply}",
-                number(2),
-                number(4)
-            )
-        }
-        [b'A', answer, set @ .., count] if set.len() == 8 => {
-            let rows: Vec<usize> = (0..64)
-                .filter(|row| set[row / 8] >> (row % 8) & 1 == 1)
-                .map(|row| row + 1)
-                .collect();
-            format!("answer {answer}, rows {rows:?}, number {count}")
-        }
-        [b'R', answer, _, _] => format!("answer {answer}, word {:04X}", number(2)),
-        [b'P', ..] => "a page".to_string(),
-        [b'T', ..] => format!("a text of {} bytes", number(1)),
-        _ => bytes_in_words(piece, 400),
-    }
 }
 
 /// The first word of a page or line of a text that differs.

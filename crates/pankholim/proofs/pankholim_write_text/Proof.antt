@@ -4,29 +4,11 @@ use Rattle.pankholim.proofs.TextLaws.{leaves-whole, leaves-none}
 use Rattle.pankholim.proofs.pankholim_write_text.Statement.{statement}
 use Rattle.pankholim.proofs.pankholim_write_text.Tie as tie
 
-write-text-requires : tie.Need-write-text-requires
-write-text-requires c κs = search needs
-
-enum-known-n : tie.Need-enum-known-n
-enum-known-n c = search needs
-
-enum-told : tie.Need-enum-told
-enum-told c = search needs
-
-text-len-requires : tie.Need-text-len-requires
-text-len-requires c κs = search needs
-
-same-length : tie.Need-same-length
-same-length c = search needs
-
 returns : tie.Need-returns
 returns c =
     let w = c .before .before .before .before .before in
     let a = w .before .before .before .before .args in
     leaves-whole (a .page .now) (a .out .now) _ _ (w .write-text .ensures) _ (c .before .n .given .1)
-
-same-length-2 : tie.Need-same-length-2
-same-length-2 c = search needs
 
 returns-2 : tie.Need-returns-2
 returns-2 c =
@@ -37,12 +19,5 @@ returns-2 c =
 pub pankholim-write-text-spec : {M : Type 1} → statement M
 pankholim-write-text-spec =
     tie.close
-    (tie.spec
-    write-text-requires
-    enum-known-n
-    enum-told
-    text-len-requires
-    same-length
-    returns
-    same-length-2
+    (tie.spec (λ c κs. search needs) (λ c. search needs) (λ c. search needs) (λ c κs. search needs) (λ c. search needs) returns (λ c. search needs)
     returns-2)

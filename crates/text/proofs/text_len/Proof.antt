@@ -20,12 +20,6 @@ loop-holds : tie.Need-loop-holds Inv-loop μ-loop
 unfolding lines textOf
 loop-holds c = (omega arith, refl)
 
-row-of-requires : tie.Need-row-of-requires Inv-loop μ-loop
-row-of-requires c κs = search needs
-
-line-len-requires : tie.Need-line-len-requires Inv-loop μ-loop
-line-len-requires c κs = search needs
-
 -- the sum of a turn
 total : (c : tie.After-line-len Inv-loop μ-loop)
     → c .before .before .before .loop .len + c .line-len .result ≡ length (textOf (c .before .before .before .loop .row + 1) (c .before .before .before .before .before .args .page .now))
@@ -39,12 +33,6 @@ add-len c =
     let head = c .before .before .before in
     omega (arith, total c, text-short (head .loop .row + 1) (head .before .before .args .page .now))
 
-add-row : tie.Need-add-row Inv-loop μ-loop
-add-row c = search needs
-
-loop-less : tie.Need-loop-less Inv-loop μ-loop
-loop-less c = search needs
-
 loop-again : tie.Need-loop-again Inv-loop μ-loop
 loop-again c = (omega arith, total c)
 
@@ -57,14 +45,5 @@ returns c =
 pub text-len-spec : {M : Type 1} → statement M
 text-len-spec =
     tie.close
-    (tie.spec
-    Inv-loop
-    μ-loop
-    loop-holds
-    row-of-requires
-    line-len-requires
-    add-len
-    add-row
-    loop-less
-    loop-again
+    (tie.spec Inv-loop μ-loop loop-holds (λ c κs. search needs) (λ c κs. search needs) add-len (λ c. search needs) (λ c. search needs) loop-again
     returns)

@@ -22,9 +22,6 @@ loop-holds : tie.Need-loop-holds Inv-loop μ-loop
 unfolding lines textOf
 loop-holds c = (omega arith, wrote-none _ _)
 
-row-of-requires : tie.Need-row-of-requires Inv-loop μ-loop
-row-of-requires c κs = search needs
-
 write-line-requires : tie.Need-write-line-requires Inv-loop μ-loop
 write-line-requires c κs =
     let head = c .before .before .before in
@@ -34,12 +31,6 @@ write-line-requires c κs =
     let line-is = ap (λ (r : List ℕ). length (line r)) (c .before .row-of .ensures) in
     let room = text-part (k + 1) (length page / 80) page (omega arith) in
     omega (arith, start .pre, head .loop .inv .1, text-more-length k page)
-
-add-row : tie.Need-add-row Inv-loop μ-loop
-add-row c = search needs
-
-loop-less : tie.Need-loop-less Inv-loop μ-loop
-loop-less c = search needs
 
 loop-again : tie.Need-loop-again Inv-loop μ-loop
 loop-again c =
@@ -51,9 +42,6 @@ loop-again c =
           (wrote-more (head .loop .inv .1) (called .write-line .ensures)),
     )
 
-same-length : tie.Need-same-length Inv-loop μ-loop
-same-length c = search needs
-
 returns : tie.Need-returns Inv-loop μ-loop
 returns c =
     let all : c .before .loop .row ≡ length (c .before .before .before .before .args .page .now) / 80 = omega arith in
@@ -62,14 +50,5 @@ returns c =
 pub write-rows-spec : {M : Type 1} → statement M
 write-rows-spec =
     tie.close
-    (tie.spec
-    Inv-loop
-    μ-loop
-    loop-holds
-    row-of-requires
-    write-line-requires
-    add-row
-    loop-less
-    loop-again
-    same-length
-    returns)
+    (tie.spec Inv-loop μ-loop loop-holds (λ c κs. search needs) write-line-requires (λ c. search needs) (λ c. search needs) loop-again
+    (λ c. search needs) returns)

@@ -11,17 +11,8 @@ use Rattle.text.proofs.TextLaws.{written-whole, written-none}
 use Rattle.text.proofs.write_text.Statement.{statement}
 use Rattle.text.proofs.write_text.Tie as tie
 
-text-len-requires : tie.Need-text-len-requires
-text-len-requires c κs = search needs
-
 returns : tie.Need-returns
 returns c = sym (written-none _ _ (omega arith))
-
-write-rows-requires : tie.Need-write-rows-requires
-write-rows-requires c κs = search needs
-
-same-length : tie.Need-same-length
-same-length c = search needs
 
 returns-2 : tie.Need-returns-2
 returns-2 c =
@@ -33,5 +24,4 @@ returns-2 c =
     sym (written-whole page out (omega arith) ∙ ap₂ (λ (n : ℕ) (l : List ℕ). writeAs (Whole n) l) count (sym (rows .write-rows .ensures .is)))
 
 pub write-text-spec : {M : Type 1} → statement M
-write-text-spec =
-    tie.close (tie.spec text-len-requires returns write-rows-requires same-length returns-2)
+write-text-spec = tie.close (tie.spec (λ c κs. search needs) returns (λ c κs. search needs) (λ c. search needs) returns-2)

@@ -20,32 +20,8 @@ Inv-loop page₀ from to word bits₀ k₀ end page bits k = (from / 80 ≤ k) �
 abbrev μ-loop : tie.MeasureT-loop
 μ-loop page₀ from to word bits₀ k₀ end page bits k = (to + 79) / 80 - k
 
-cast-k : tie.Need-cast-k Inv-loop μ-loop
-cast-k c = search needs
-
-add-end : tie.Need-add-end Inv-loop μ-loop
-add-end c = search needs
-
-cast-end : tie.Need-cast-end Inv-loop μ-loop
-cast-end c = search needs
-
 loop-holds : tie.Need-loop-holds Inv-loop μ-loop
 loop-holds c = (omega arith, omega arith, block-none _ _ _)
-
-column-in-requires : tie.Need-column-in-requires Inv-loop μ-loop
-column-in-requires c κs = search needs
-
-column-in-requires-2 : tie.Need-column-in-requires-2 Inv-loop μ-loop
-column-in-requires-2 c κs = search needs
-
-fill-row-requires : tie.Need-fill-row-requires Inv-loop μ-loop
-fill-row-requires c κs = search needs
-
-add-k : tie.Need-add-k Inv-loop μ-loop
-add-k c = search needs
-
-loop-less : tie.Need-loop-less Inv-loop μ-loop
-loop-less c = search needs
 
 loop-again : tie.Need-loop-again Inv-loop μ-loop
 loop-again c =
@@ -70,9 +46,6 @@ loop-again c =
           refl (l .loop .inv .0),
     )
 
-same-length : tie.Need-same-length Inv-loop μ-loop
-same-length c = search needs
-
 returns : tie.Need-returns Inv-loop μ-loop
 returns c =
     let l = c .before in
@@ -84,18 +57,5 @@ returns c =
 pub fill-spec : {M : Type 1} → statement M
 fill-spec =
     tie.close
-    (tie.spec
-    Inv-loop
-    μ-loop
-    cast-k
-    add-end
-    cast-end
-    loop-holds
-    column-in-requires
-    column-in-requires-2
-    fill-row-requires
-    add-k
-    loop-less
-    loop-again
-    same-length
-    returns)
+    (tie.spec Inv-loop μ-loop (λ c. search needs) (λ c. search needs) (λ c. search needs) loop-holds (λ c κs. search needs) (λ c κs. search needs)
+    (λ c κs. search needs) (λ c. search needs) (λ c. search needs) loop-again (λ c. search needs) returns)

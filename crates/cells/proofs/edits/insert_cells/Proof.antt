@@ -4,33 +4,6 @@ use borrow.Author.Needs.{needs}
 use Rattle.cells.proofs.edits.insert_cells.Statement.{statement}
 use Rattle.cells.proofs.edits.insert_cells.Tie as tie
 
-place-requires : tie.Need-place-requires
-place-requires c κs = search needs
-
-sub-rest : tie.Need-sub-rest
-sub-rest c = search needs
-
-sub-rest-2 : tie.Need-sub-rest-2
-sub-rest-2 c = search needs
-
-cast-rest : tie.Need-cast-rest
-cast-rest c = search needs
-
-add-copy-words : tie.Need-add-copy-words
-add-copy-words c = search needs
-
-copy-words-requires : tie.Need-copy-words-requires
-copy-words-requires c κs = search needs
-
-fill-words-requires : tie.Need-fill-words-requires
-fill-words-requires c κs = search needs
-
-row-bit-requires : tie.Need-row-bit-requires
-row-bit-requires c κs = search needs
-
-same-length : tie.Need-same-length
-same-length c = search needs
-
 returns : tie.Need-returns
 returns c =
     let fill = c .before .before .before in
@@ -41,14 +14,5 @@ returns c =
 pub insert-cells-spec : {M : Type 1} → statement M
 insert-cells-spec =
     tie.close
-    (tie.spec
-    place-requires
-    sub-rest
-    sub-rest-2
-    cast-rest
-    add-copy-words
-    copy-words-requires
-    fill-words-requires
-    row-bit-requires
-    same-length
-    returns)
+    (tie.spec (λ c κs. search needs) (λ c. search needs) (λ c. search needs) (λ c. search needs) (λ c. search needs) (λ c κs. search needs)
+    (λ c κs. search needs) (λ c κs. search needs) (λ c. search needs) returns)

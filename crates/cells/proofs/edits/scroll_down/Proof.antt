@@ -9,18 +9,6 @@ use borrow.Author.Needs.{needs}
 use Rattle.cells.proofs.edits.scroll_down.Statement.{statement}
 use Rattle.cells.proofs.edits.scroll_down.Tie as tie
 
-add-first : tie.Need-add-first
-add-first c = search needs
-
-lower-rows-requires : tie.Need-lower-rows-requires
-lower-rows-requires c κs = search needs
-
-fill-rows-requires : tie.Need-fill-rows-requires
-fill-rows-requires c κs = search needs
-
-same-length : tie.Need-same-length
-same-length c = search needs
-
 returns : tie.Need-returns
 returns c =
     let entered = c .before .before in
@@ -35,5 +23,4 @@ returns c =
     (λ j o o'. ⊎-elim (λ (b : j < top + n). ⊎-elim (λ (d : j < top). inl d) (λ (d : top + n ≤ j). absurd (omega arith)) o') (λ (b : end ≤ j). inr b) o)
 
 pub scroll-down-spec : {M : Type 1} → statement M
-scroll-down-spec =
-    tie.close (tie.spec add-first lower-rows-requires fill-rows-requires same-length returns)
+scroll-down-spec = tie.close (tie.spec (λ c. search needs) (λ c κs. search needs) (λ c κs. search needs) (λ c. search needs) returns)

@@ -9,18 +9,6 @@ use borrow.Author.Needs.{needs}
 use Rattle.cells.proofs.edits.scroll_up.Statement.{statement}
 use Rattle.cells.proofs.edits.scroll_up.Tie as tie
 
-sub-last : tie.Need-sub-last
-sub-last c = search needs
-
-raise-rows-requires : tie.Need-raise-rows-requires
-raise-rows-requires c κs = search needs
-
-fill-rows-requires : tie.Need-fill-rows-requires
-fill-rows-requires c κs = search needs
-
-same-length : tie.Need-same-length
-same-length c = search needs
-
 returns : tie.Need-returns
 returns c =
     let entered = c .before .before in
@@ -35,5 +23,4 @@ returns c =
     (λ j o o'. ⊎-elim (λ (b : j < top). inl b) (λ (b : end - n ≤ j). ⊎-elim (λ (d : j < end - n). absurd (omega arith)) (λ (d : end ≤ j). inr d) o') o)
 
 pub scroll-up-spec : {M : Type 1} → statement M
-scroll-up-spec =
-    tie.close (tie.spec sub-last raise-rows-requires fill-rows-requires same-length returns)
+scroll-up-spec = tie.close (tie.spec (λ c. search needs) (λ c κs. search needs) (λ c κs. search needs) (λ c. search needs) returns)

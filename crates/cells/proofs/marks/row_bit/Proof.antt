@@ -9,9 +9,6 @@ use borrow.Author.Needs.{needs}
 use Rattle.cells.proofs.marks.row_bit.Statement.{statement}
 use Rattle.cells.proofs.marks.row_bit.Tie as tie
 
-shl-result : tie.Need-shl-result
-shl-result c = search needs
-
 returns : tie.Need-returns
 returns c = rw (c .if1 .taken) (shl-exact 1 (c .before .args .row) 64 (lit< tt) (omega arith))
 
@@ -19,4 +16,4 @@ returns-2 : tie.Need-returns-2
 returns-2 c = rw (c .if1 .left) (sym (zero-mul (2 ^ c .before .args .row)))
 
 pub row-bit-spec : {M : Type 1} → statement M
-row-bit-spec = tie.close (tie.spec shl-result returns returns-2)
+row-bit-spec = tie.close (tie.spec (λ c. search needs) returns returns-2)

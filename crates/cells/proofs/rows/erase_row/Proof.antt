@@ -9,24 +9,6 @@ use borrow.Author.Needs.{needs}
 use Rattle.cells.proofs.rows.erase_row.Statement.{statement}
 use Rattle.cells.proofs.rows.erase_row.Tie as tie
 
-sub-len : tie.Need-sub-len
-sub-len c = search needs
-
-cast-len : tie.Need-cast-len
-cast-len c = search needs
-
-place-requires : tie.Need-place-requires
-place-requires c κs = search needs
-
-erase-words-requires : tie.Need-erase-words-requires
-erase-words-requires c κs = search needs
-
-row-bit-requires : tie.Need-row-bit-requires
-row-bit-requires c κs = search needs
-
-same-length : tie.Need-same-length
-same-length c = search needs
-
 returns : tie.Need-returns
 returns c =
     let d = c .before .before .before in
@@ -39,11 +21,4 @@ returns c =
 pub erase-row-spec : {M : Type 1} → statement M
 erase-row-spec =
     tie.close
-    (tie.spec
-    sub-len
-    cast-len
-    place-requires
-    erase-words-requires
-    row-bit-requires
-    same-length
-    returns)
+    (tie.spec (λ c. search needs) (λ c. search needs) (λ c κs. search needs) (λ c κs. search needs) (λ c κs. search needs) (λ c. search needs) returns)

@@ -8,28 +8,10 @@ use borrow.Author.Needs.{needs}
 use Rattle.cells.proofs.rows.move_row.Statement.{statement}
 use Rattle.cells.proofs.rows.move_row.Tie as tie
 
-sub-len : tie.Need-sub-len
-sub-len c = search needs
-
-cast-len : tie.Need-cast-len
-cast-len c = search needs
-
-place-requires : tie.Need-place-requires
-place-requires c κs = search needs
-
-place-requires-2 : tie.Need-place-requires-2
-place-requires-2 c κs = search needs
-
 copy-columns-requires : tie.Need-copy-columns-requires
 copy-columns-requires c κs =
     let a = c .before .before .before .before .args in
     (omega arith, omega arith, ⊎-elim (λ (b : a .from < a .to). inr (omega arith)) (λ (b : a .to ≤ a .from). inl (omega arith)) (split-lt (a .from) (a .to)))
-
-row-bit-requires : tie.Need-row-bit-requires
-row-bit-requires c κs = search needs
-
-same-length : tie.Need-same-length
-same-length c = search needs
 
 returns : tie.Need-returns
 returns c =
@@ -40,12 +22,5 @@ returns c =
 pub move-row-spec : {M : Type 1} → statement M
 move-row-spec =
     tie.close
-    (tie.spec
-    sub-len
-    cast-len
-    place-requires
-    place-requires-2
-    copy-columns-requires
-    row-bit-requires
-    same-length
-    returns)
+    (tie.spec (λ c. search needs) (λ c. search needs) (λ c κs. search needs) (λ c κs. search needs) copy-columns-requires (λ c κs. search needs)
+    (λ c. search needs) returns)

@@ -18,12 +18,6 @@ copy-upward-requires c κs =
       ⊎-elim (λ (b : a .to ≤ a .from). inl b) (λ (b : a .from + a .len ≤ a .to). inr (omega arith)) (s .pre .2),
     )
 
-copy-upward-requires-2 : tie.Need-copy-upward-requires-2
-copy-upward-requires-2 c κs = search needs
-
-same-length : tie.Need-same-length
-same-length c = search needs
-
 returns : tie.Need-returns
 returns c =
     let d = c .before .before in
@@ -31,19 +25,7 @@ returns c =
     let a = t .before .before .args in
     subst (λ (n : ℕ). Pasted (a .page .now) (d .copy-upward .last .0) (a .to) (drop (a .from) (a .page .now)) n (d .copy-upward .result)) (sym (t .if1 .taken)) (d .copy-upward .ensures)
 
-same-length-2 : tie.Need-same-length-2
-same-length-2 c = search needs
-
-returns-2 : tie.Need-returns-2
-returns-2 c = search needs
-
 pub copy-columns-spec : {M : Type 1} → statement M
 copy-columns-spec =
     tie.close
-    (tie.spec
-    copy-upward-requires
-    copy-upward-requires-2
-    same-length
-    returns
-    same-length-2
-    returns-2)
+    (tie.spec copy-upward-requires (λ c κs. search needs) (λ c. search needs) returns (λ c. search needs) (λ c. search needs))

@@ -6,9 +6,6 @@ use borrow.Author.Needs.{needs}
 use Rattle.cells.proofs.segments.copy_words.Statement.{statement}
 use Rattle.cells.proofs.segments.copy_words.Tie as tie
 
-add-if1 : tie.Need-add-if1
-add-if1 c = search needs
-
 copy-upward-requires : tie.Need-copy-upward-requires
 copy-upward-requires c κs =
     let i = c .before in
@@ -22,26 +19,8 @@ copy-downward-requires c κs =
     let later = neither-leb (a .to) (a .from) (a .from + a .len) (a .to) (i .if1 .left) in
     omega arith
 
-same-length : tie.Need-same-length
-same-length c = search needs
-
-returns : tie.Need-returns
-returns c = search needs
-
-same-length-2 : tie.Need-same-length-2
-same-length-2 c = search needs
-
-returns-2 : tie.Need-returns-2
-returns-2 c = search needs
-
 pub copy-words-spec : {M : Type 1} → statement M
 copy-words-spec =
     tie.close
-    (tie.spec
-    add-if1
-    copy-upward-requires
-    copy-downward-requires
-    same-length
-    returns
-    same-length-2
-    returns-2)
+    (tie.spec (λ c. search needs) copy-upward-requires copy-downward-requires (λ c. search needs) (λ c. search needs) (λ c. search needs)
+    (λ c. search needs))

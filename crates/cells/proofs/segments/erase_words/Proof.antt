@@ -22,33 +22,6 @@ abbrev μ-loop : tie.MeasureT-loop
 loop-holds : tie.Need-loop-holds Inv-loop μ-loop
 loop-holds c = (omega arith, stored-none _ _ _ _)
 
-add-old : tie.Need-add-old Inv-loop μ-loop
-add-old c = search needs
-
-mul-old : tie.Need-mul-old Inv-loop μ-loop
-mul-old c = search needs
-
-slice-read-old : tie.Need-slice-read-old Inv-loop μ-loop
-slice-read-old c = search needs
-
-selectively-erase-requires : tie.Need-selectively-erase-requires Inv-loop μ-loop
-selectively-erase-requires c κs = search needs
-
-add-page : tie.Need-add-page Inv-loop μ-loop
-add-page c = search needs
-
-mul-page : tie.Need-mul-page Inv-loop μ-loop
-mul-page c = search needs
-
-slice-write-page : tie.Need-slice-write-page Inv-loop μ-loop
-slice-write-page c = search needs
-
-add-k : tie.Need-add-k Inv-loop μ-loop
-add-k c = search needs
-
-loop-less : tie.Need-loop-less Inv-loop μ-loop
-loop-less c = search needs
-
 loop-again : tie.Need-loop-again Inv-loop μ-loop
 loop-again c =
     let l = c .before .before .before in
@@ -60,28 +33,11 @@ loop-again c =
     ∙ sym (getD-map selectivelyErased (drop (a .to) (a .page .now)) (l .loop .k) (simp length-drop (omega arith))) in
     (omega arith, stored-up S _ _ (omega arith) (omega arith) made refl)
 
-same-length : tie.Need-same-length Inv-loop μ-loop
-same-length c = search needs
-
 returns : tie.Need-returns Inv-loop μ-loop
 returns c = stored-all (c .before .loop .inv .1) _ refl (omega arith) (omega arith) (simp (length-map, length-drop) (omega arith))
 
 pub erase-words-spec : {M : Type 1} → statement M
 erase-words-spec =
     tie.close
-    (tie.spec
-    Inv-loop
-    μ-loop
-    loop-holds
-    add-old
-    mul-old
-    slice-read-old
-    selectively-erase-requires
-    add-page
-    mul-page
-    slice-write-page
-    add-k
-    loop-less
-    loop-again
-    same-length
-    returns)
+    (tie.spec Inv-loop μ-loop loop-holds (λ c. search needs) (λ c. search needs) (λ c. search needs) (λ c κs. search needs) (λ c. search needs)
+    (λ c. search needs) (λ c. search needs) (λ c. search needs) (λ c. search needs) loop-again (λ c. search needs) returns)

@@ -17,30 +17,6 @@ abbrev μ-loop : tie.MeasureT-loop
 loop-holds : tie.Need-loop-holds Inv-loop μ-loop
 loop-holds c = (omega arith, stored-none _ _ _ _)
 
-add-changed : tie.Need-add-changed Inv-loop μ-loop
-add-changed c = search needs
-
-mul-changed : tie.Need-mul-changed Inv-loop μ-loop
-mul-changed c = search needs
-
-slice-read-changed : tie.Need-slice-read-changed Inv-loop μ-loop
-slice-read-changed c = search needs
-
-add-page : tie.Need-add-page Inv-loop μ-loop
-add-page c = search needs
-
-mul-page : tie.Need-mul-page Inv-loop μ-loop
-mul-page c = search needs
-
-slice-write-page : tie.Need-slice-write-page Inv-loop μ-loop
-slice-write-page c = search needs
-
-add-k : tie.Need-add-k Inv-loop μ-loop
-add-k c = search needs
-
-loop-less : tie.Need-loop-less Inv-loop μ-loop
-loop-less c = search needs
-
 loop-again : tie.Need-loop-again Inv-loop μ-loop
 loop-again c =
     let l = c .before .before in
@@ -49,27 +25,11 @@ loop-again c =
       stored-up (l .loop .inv .1) _ _ (omega arith) (omega arith) (sym (getD-replicate (a .len) (l .loop .k) (a .word) 0 (omega arith))) refl,
     )
 
-same-length : tie.Need-same-length Inv-loop μ-loop
-same-length c = search needs
-
 returns : tie.Need-returns Inv-loop μ-loop
 returns c = stored-all (c .before .loop .inv .1) _ refl (omega arith) (omega arith) (simp length-replicate (omega arith))
 
 pub fill-words-spec : {M : Type 1} → statement M
 fill-words-spec =
     tie.close
-    (tie.spec
-    Inv-loop
-    μ-loop
-    loop-holds
-    add-changed
-    mul-changed
-    slice-read-changed
-    add-page
-    mul-page
-    slice-write-page
-    add-k
-    loop-less
-    loop-again
-    same-length
-    returns)
+    (tie.spec Inv-loop μ-loop loop-holds (λ c. search needs) (λ c. search needs) (λ c. search needs) (λ c. search needs) (λ c. search needs)
+    (λ c. search needs) (λ c. search needs) (λ c. search needs) loop-again (λ c. search needs) returns)

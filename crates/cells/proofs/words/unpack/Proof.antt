@@ -5,30 +5,6 @@ use borrow.Author.Needs.{needs}
 use Rattle.cells.proofs.words.unpack.Statement.{statement}
 use Rattle.cells.proofs.words.unpack.Tie as tie
 
-flag-of-requires : tie.Need-flag-of-requires
-flag-of-requires c κs = search needs
-
-flag-of-requires-2 : tie.Need-flag-of-requires-2
-flag-of-requires-2 c κs = search needs
-
-flag-of-requires-3 : tie.Need-flag-of-requires-3
-flag-of-requires-3 c κs = search needs
-
-flag-of-requires-4 : tie.Need-flag-of-requires-4
-flag-of-requires-4 c κs = search needs
-
-cast-set-of : tie.Need-cast-set-of
-cast-set-of c = search needs
-
-set-of-requires : tie.Need-set-of-requires
-set-of-requires c κs = search needs
-
-cast-t14 : tie.Need-cast-t14
-cast-t14 c = search needs
-
-flag-of-requires-5 : tie.Need-flag-of-requires-5
-flag-of-requires-5 c κs = search needs
-
 returns : tie.Need-returns
 unfolding unpacked
 returns c =
@@ -48,13 +24,5 @@ returns c =
 pub unpack-spec : {M : Type 1} → statement M
 unpack-spec =
     tie.close
-    (tie.spec
-    flag-of-requires
-    flag-of-requires-2
-    flag-of-requires-3
-    flag-of-requires-4
-    cast-set-of
-    set-of-requires
-    cast-t14
-    flag-of-requires-5
-    returns)
+    (tie.spec (λ c κs. search needs) (λ c κs. search needs) (λ c κs. search needs) (λ c κs. search needs) (λ c. search needs) (λ c κs. search needs)
+    (λ c. search needs) (λ c κs. search needs) returns)

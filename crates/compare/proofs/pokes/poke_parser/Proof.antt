@@ -3,15 +3,8 @@ use borrow.Author.Needs.{needs}
 use Rattle.compare.proofs.pokes.poke_parser.Statement.{statement}
 use Rattle.compare.proofs.pokes.poke_parser.Tie as tie
 
-parser-of-requires : tie.Need-parser-of-requires
-parser-of-requires c κs = search needs
-
 returns : tie.Need-returns
 returns c = rw (c .parser-of .ensures)
 
 pub poke-parser-spec : {M : Type 1} → statement M
-poke-parser-spec =
-    tie.close
-    (tie.spec
-    parser-of-requires
-    returns)
+poke-parser-spec = tie.close (tie.spec (λ c κs. search needs) returns)

@@ -4,21 +4,6 @@ use Rattle.compare.proofs.OutputLaws.{put-more}
 use Rattle.compare.proofs.views.put_core.Statement.{statement}
 use Rattle.compare.proofs.views.put_core.Tie as tie
 
-put-place-requires : tie.Need-put-place-requires
-put-place-requires c κs = search needs
-
-put-writing-requires : tie.Need-put-writing-requires
-put-writing-requires c κs = search needs
-
-put-saved-requires : tie.Need-put-saved-requires
-put-saved-requires c κs = search needs
-
-put-tabs-requires : tie.Need-put-tabs-requires
-put-tabs-requires c κs = search needs
-
-same-length : tie.Need-same-length
-same-length c = search needs
-
 returns : tie.Need-returns
 returns c =
     let tabs = c .before .before in
@@ -30,10 +15,4 @@ returns c =
 pub put-core-spec : {M : Type 1} → statement M
 put-core-spec =
     tie.close
-    (tie.spec
-    put-place-requires
-    put-writing-requires
-    put-saved-requires
-    put-tabs-requires
-    same-length
-    returns)
+    (tie.spec (λ c κs. search needs) (λ c κs. search needs) (λ c κs. search needs) (λ c κs. search needs) (λ c. search needs) returns)

@@ -4,21 +4,6 @@ use Rattle.compare.proofs.OutputLaws.{put-more}
 use Rattle.compare.proofs.views.put_saved.Statement.{statement}
 use Rattle.compare.proofs.views.put_saved.Tie as tie
 
-put-cursor-requires : tie.Need-put-cursor-requires
-put-cursor-requires c κs = search needs
-
-put-rendition-requires : tie.Need-put-rendition-requires
-put-rendition-requires c κs = search needs
-
-put-flag-requires : tie.Need-put-flag-requires
-put-flag-requires c κs = search needs
-
-put-sets-requires : tie.Need-put-sets-requires
-put-sets-requires c κs = search needs
-
-same-length : tie.Need-same-length
-same-length c = search needs
-
 returns : tie.Need-returns
 returns c =
     let sets = c .before .before in
@@ -30,10 +15,4 @@ returns c =
 pub put-saved-spec : {M : Type 1} → statement M
 put-saved-spec =
     tie.close
-    (tie.spec
-    put-cursor-requires
-    put-rendition-requires
-    put-flag-requires
-    put-sets-requires
-    same-length
-    returns)
+    (tie.spec (λ c κs. search needs) (λ c κs. search needs) (λ c κs. search needs) (λ c κs. search needs) (λ c. search needs) returns)

@@ -1,41 +1,16 @@
--- Each way is the definition's, by whether the cursor is inside the margins.
-use mathlib.Core.Path.{sym, _∙_}
+-- The edit is the definition's, and the cursor goes to column 1.
+use mathlib.Core.Path.{_∙_}
 use borrow.Author.Needs.{needs}
-use Rattle.parser.proofs.Choice.{take-yes, take-no}
 use Rattle.csi.proofs.inserting.insert_lines.Statement.{statement}
 use Rattle.csi.proofs.inserting.insert_lines.Tie as tie
 
-inside-margins-requires : tie.Need-inside-margins-requires
-inside-margins-requires c κs = search needs
-
-sub-t6 : tie.Need-sub-t6
-sub-t6 c = search needs
-
-n-requires : tie.Need-n-requires
-n-requires c κs = search needs
-
-rows-below-requires : tie.Need-rows-below-requires
-rows-below-requires c κs = search needs
-
-at-most-requires : tie.Need-at-most-requires
-at-most-requires c κs = search needs
-
-to-column-requires : tie.Need-to-column-requires
-to-column-requires c κs = search needs
-
-only-requires : tie.Need-only-requires
-only-requires c κs = search needs
-
 returns : tie.Need-returns
 returns c =
-    take-yes _ _ (sym (c .before .before .before .before .before .before .before .before .inside-margins .ensures) ∙ c .before .before .before .before .before .before .before .if1 .taken)
-    (c .only .ensures ∙ rw (c .before .to-column .ensures, c .before .before .at-most .ensures, c .before .before .before .rows-below .ensures, c .before .before .before .before .n .ensures))
-
-quiet-requires : tie.Need-quiet-requires
-quiet-requires c κs = search needs
-
-returns-2 : tie.Need-returns-2
-returns-2 c = take-no _ _ (sym (c .before .before .inside-margins .ensures) ∙ c .before .if1 .left) (c .quiet .ensures)
+    let below = c .before .before .before in
+    c .only .ensures ∙ rw (c .before .to-column .ensures, c .before .before .at-most .ensures, below .rows-below .ensures, below .before .n .ensures)
 
 pub insert-lines-spec : {M : Type 1} → statement M
-insert-lines-spec = tie.close (tie.spec inside-margins-requires sub-t6 n-requires rows-below-requires at-most-requires to-column-requires only-requires returns quiet-requires returns-2)
+insert-lines-spec =
+    tie.close
+    (tie.spec (λ c. search needs) (λ c κs. search needs) (λ c κs. search needs) (λ c κs. search needs) (λ c κs. search needs) (λ c κs. search needs)
+    returns)

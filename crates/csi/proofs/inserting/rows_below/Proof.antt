@@ -5,17 +5,8 @@ use borrow.Author.Needs.{needs}
 use Rattle.csi.proofs.inserting.rows_below.Statement.{statement}
 use Rattle.csi.proofs.inserting.rows_below.Tie as tie
 
-sub-back : tie.Need-sub-back
-sub-back c = search needs
-
-cast-back : tie.Need-cast-back
-cast-back c = search needs
-
-back-requires : tie.Need-back-requires
-back-requires c κs = search needs
-
 returns : tie.Need-returns
 returns c = c .back .ensures ∙ omega arith
 
 pub rows-below-spec : {M : Type 1} → statement M
-rows-below-spec = tie.close (tie.spec sub-back cast-back back-requires returns)
+rows-below-spec = tie.close (tie.spec (λ c. search needs) (λ c. search needs) (λ c κs. search needs) returns)

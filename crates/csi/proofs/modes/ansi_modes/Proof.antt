@@ -17,23 +17,8 @@ Inv-loop core₀ params on count i₀ core i = folded (ansiMode on) core (drop i
 abbrev μ-loop : tie.MeasureT-loop
 μ-loop core₀ params on count i₀ core i = count - i
 
-count-requires : tie.Need-count-requires Inv-loop μ-loop
-count-requires c κs = search needs
-
 loop-holds : tie.Need-loop-holds Inv-loop μ-loop
 loop-holds c = refl
-
-get-requires : tie.Need-get-requires Inv-loop μ-loop
-get-requires c κs = search needs
-
-ansi-mode-requires : tie.Need-ansi-mode-requires Inv-loop μ-loop
-ansi-mode-requires c κs = search needs
-
-add-i : tie.Need-add-i Inv-loop μ-loop
-add-i c = search needs
-
-loop-less : tie.Need-loop-less Inv-loop μ-loop
-loop-less c = search needs
 
 loop-again : tie.Need-loop-again Inv-loop μ-loop
 loop-again c =
@@ -43,9 +28,6 @@ loop-again c =
     ∙ sym (ap (folded (ansiMode (c .before .before .before .before .before .args .on)) (c .before .before .before .loop .core)) (list-more _ _ e (rw (c .before .before .before .before .count .ensures) at (c .before .before .loop-test .taken))))
     ∙ c .before .before .before .loop .inv
 
-quiet-requires : tie.Need-quiet-requires Inv-loop μ-loop
-quiet-requires c κs = search needs
-
 returns : tie.Need-returns Inv-loop μ-loop
 returns c =
     let g = c .before .before .before .before .good .1 .0 in
@@ -54,4 +36,7 @@ returns c =
     ∙ ap quiet (sym (ap (folded (ansiMode (c .before .before .before .before .args .on)) (c .before .before .loop .core)) (list-end _ _ e (rw (c .before .before .before .count .ensures) at (c .before .loop-test .left)))) ∙ c .before .before .loop .inv)
 
 pub ansi-modes-spec : {M : Type 1} → statement M
-ansi-modes-spec = tie.close (tie.spec Inv-loop μ-loop count-requires loop-holds get-requires ansi-mode-requires add-i loop-less loop-again quiet-requires returns)
+ansi-modes-spec =
+    tie.close
+    (tie.spec Inv-loop μ-loop (λ c κs. search needs) loop-holds (λ c κs. search needs) (λ c κs. search needs) (λ c. search needs) (λ c. search needs)
+    loop-again (λ c κs. search needs) returns)

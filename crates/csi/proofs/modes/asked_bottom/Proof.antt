@@ -7,9 +7,6 @@ use Rattle.csi.proofs.modes.asked_bottom.Tie as tie
 returns : tie.Need-returns
 returns c = rw (eq-eqb _ _ (c .if1 .taken))
 
-cast-result : tie.Need-cast-result
-cast-result c = search needs
-
 returns-2 : tie.Need-returns-2
 returns-2 c = rw (ne-eqb _ _ (c .before .if1 .left), lt-ltb _ _ (c .if2 .taken))
 
@@ -17,4 +14,4 @@ returns-3 : tie.Need-returns-3
 returns-3 c = rw (ne-eqb _ _ (c .before .if1 .left), le-ltb _ _ (c .if2 .left))
 
 pub asked-bottom-spec : {M : Type 1} → statement M
-asked-bottom-spec = tie.close (tie.spec returns cast-result returns-2 returns-3)
+asked-bottom-spec = tie.close (tie.spec returns (λ c. search needs) returns-2 returns-3)

@@ -6,34 +6,16 @@ use Rattle.parser.proofs.Choice.{take-yes, take-no}
 use Rattle.csi.proofs.modes.clear_tabs.Statement.{statement}
 use Rattle.csi.proofs.modes.clear_tabs.Tie as tie
 
-get-requires : tie.Need-get-requires
-get-requires c κs = search needs
-
-clear-requires : tie.Need-clear-requires
-clear-requires c κs = search needs
-
-quiet-requires : tie.Need-quiet-requires
-quiet-requires c κs = search needs
-
 returns : tie.Need-returns
 returns c =
     take-yes _ _ (eq-eqb _ _ (rw (c .before .before .before .before .get .ensures) at (c .before .before .if1 .taken)))
     (c .quiet .ensures ∙ rw (c .before .clear .ensures))
-
-clear-all-requires : tie.Need-clear-all-requires
-clear-all-requires c κs = search needs
-
-quiet-requires-2 : tie.Need-quiet-requires-2
-quiet-requires-2 c κs = search needs
 
 returns-2 : tie.Need-returns-2
 returns-2 c =
     take-no _ _ (ne-eqb _ _ (rw (c .before .before .before .before .before .get .ensures) at (c .before .before .before .if1 .left)))
     (take-yes _ _ (eq-eqb _ _ (rw (c .before .before .before .before .before .get .ensures) at (c .before .before .if2 .taken)))
     (c .quiet2 .ensures ∙ rw (c .before .clear-all .ensures)))
-
-quiet-requires-3 : tie.Need-quiet-requires-3
-quiet-requires-3 c κs = search needs
 
 returns-3 : tie.Need-returns-3
 returns-3 c =
@@ -42,4 +24,7 @@ returns-3 c =
     (c .quiet3 .ensures))
 
 pub clear-tabs-spec : {M : Type 1} → statement M
-clear-tabs-spec = tie.close (tie.spec get-requires clear-requires quiet-requires returns clear-all-requires quiet-requires-2 returns-2 quiet-requires-3 returns-3)
+clear-tabs-spec =
+    tie.close
+    (tie.spec (λ c κs. search needs) (λ c κs. search needs) (λ c κs. search needs) returns (λ c κs. search needs) (λ c κs. search needs) returns-2
+    (λ c κs. search needs) returns-3)

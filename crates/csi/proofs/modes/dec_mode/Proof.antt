@@ -6,9 +6,6 @@ use Rattle.parser.proofs.Choice.{take-yes, take-no}
 use Rattle.csi.proofs.modes.dec_mode.Statement.{statement}
 use Rattle.csi.proofs.modes.dec_mode.Tie as tie
 
-origin-mode-requires : tie.Need-origin-mode-requires
-origin-mode-requires c κs = search needs
-
 returns : tie.Need-returns
 returns c =
     take-yes _ _ (eq-eqb _ _ (c .before .if1 .taken))
@@ -35,4 +32,4 @@ returns-4 c =
     (refl)))
 
 pub dec-mode-spec : {M : Type 1} → statement M
-dec-mode-spec = tie.close (tie.spec origin-mode-requires returns returns-2 returns-3 returns-4)
+dec-mode-spec = tie.close (tie.spec (λ c κs. search needs) returns returns-2 returns-3 returns-4)

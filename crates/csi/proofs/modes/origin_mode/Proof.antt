@@ -3,14 +3,8 @@ use borrow.Author.Needs.{needs}
 use Rattle.csi.proofs.modes.origin_mode.Statement.{statement}
 use Rattle.csi.proofs.modes.origin_mode.Tie as tie
 
-pick-requires : tie.Need-pick-requires
-pick-requires c κs = search needs
-
-home-requires : tie.Need-home-requires
-home-requires c κs = search needs
-
 returns : tie.Need-returns
 returns c = rw (c .home .ensures, c .before .pick .ensures)
 
 pub origin-mode-spec : {M : Type 1} → statement M
-origin-mode-spec = tie.close (tie.spec pick-requires home-requires returns)
+origin-mode-spec = tie.close (tie.spec (λ c κs. search needs) (λ c κs. search needs) returns)

@@ -7,9 +7,6 @@ use Rattle.parser.proofs.Choice.{take-no}
 use Rattle.csi.proofs.modes.render.Statement.{statement}
 use Rattle.csi.proofs.modes.render.Tie as tie
 
-plain-rendition-requires : tie.Need-plain-rendition-requires
-plain-rendition-requires c κs = search needs
-
 returns : tie.Need-returns
 unfolding rendered
 returns c = c .plain-rendition .ensures ∙ ap (rendered (c .before .before .args .rendition)) (sym (c .before .match .keys1))
@@ -62,4 +59,6 @@ returns-10 c =
     (refl)))))))))
 
 pub render-spec : {M : Type 1} → statement M
-render-spec = tie.close (tie.spec plain-rendition-requires returns returns-2 returns-3 returns-4 returns-5 returns-6 returns-7 returns-8 returns-9 returns-10)
+render-spec =
+    tie.close
+    (tie.spec (λ c κs. search needs) returns returns-2 returns-3 returns-4 returns-5 returns-6 returns-7 returns-8 returns-9 returns-10)

@@ -17,23 +17,8 @@ Inv-loop core params rendition₀ count i₀ rendition i = folded rendered rendi
 abbrev μ-loop : tie.MeasureT-loop
 μ-loop core params rendition₀ count i₀ rendition i = count - i
 
-count-requires : tie.Need-count-requires Inv-loop μ-loop
-count-requires c κs = search needs
-
 loop-holds : tie.Need-loop-holds Inv-loop μ-loop
 loop-holds c = refl
-
-get-requires : tie.Need-get-requires Inv-loop μ-loop
-get-requires c κs = search needs
-
-render-requires : tie.Need-render-requires Inv-loop μ-loop
-render-requires c κs = search needs
-
-add-i : tie.Need-add-i Inv-loop μ-loop
-add-i c = search needs
-
-loop-less : tie.Need-loop-less Inv-loop μ-loop
-loop-less c = search needs
 
 loop-again : tie.Need-loop-again Inv-loop μ-loop
 loop-again c =
@@ -42,9 +27,6 @@ loop-again c =
     ap (λ (x : Rendition). folded rendered x (drop (c .before .before .before .loop .i + 1) (paramList (c .before .before .before .before .before .before .args .params)))) (c .render .ensures ∙ ap (rendered (c .before .before .before .loop .rendition)) (c .before .get .ensures))
     ∙ sym (ap (folded rendered (c .before .before .before .loop .rendition)) (list-more _ _ e (rw (c .before .before .before .before .count .ensures) at (c .before .before .loop-test .taken))))
     ∙ c .before .before .before .loop .inv
-
-quiet-requires : tie.Need-quiet-requires Inv-loop μ-loop
-quiet-requires c κs = search needs
 
 returns : tie.Need-returns Inv-loop μ-loop
 returns c =
@@ -55,4 +37,7 @@ returns c =
     (sym (ap (folded rendered (c .before .before .loop .rendition)) (list-end _ _ e (rw (c .before .before .before .count .ensures) at (c .before .loop-test .left)))) ∙ c .before .before .loop .inv)
 
 pub select-graphic-rendition-spec : {M : Type 1} → statement M
-select-graphic-rendition-spec = tie.close (tie.spec Inv-loop μ-loop count-requires loop-holds get-requires render-requires add-i loop-less loop-again quiet-requires returns)
+select-graphic-rendition-spec =
+    tie.close
+    (tie.spec Inv-loop μ-loop (λ c κs. search needs) loop-holds (λ c κs. search needs) (λ c κs. search needs) (λ c. search needs) (λ c. search needs)
+    loop-again (λ c κs. search needs) returns)

@@ -5,28 +5,16 @@ use Rattle.parser.proofs.Choice.{take-yes, take-no}
 use Rattle.csi.proofs.modes.select_protection.Statement.{statement}
 use Rattle.csi.proofs.modes.select_protection.Tie as tie
 
-get-requires : tie.Need-get-requires
-get-requires c κs = search needs
-
-quiet-requires : tie.Need-quiet-requires
-quiet-requires c κs = search needs
-
 returns : tie.Need-returns
 returns c =
     take-yes _ _ (eq-eqb _ _ (rw (c .before .before .get .ensures) at (c .before .if1 .taken)))
     (c .quiet .ensures)
-
-quiet-requires-2 : tie.Need-quiet-requires-2
-quiet-requires-2 c κs = search needs
 
 returns-2 : tie.Need-returns-2
 returns-2 c =
     take-no _ _ (ne-eqb _ _ (rw (c .before .before .before .get .ensures) at (c .before .before .if1 .left)))
     (take-yes _ _ (le-leb _ _ (rw (c .before .before .before .get .ensures) at (c .before .if2 .taken)))
     (c .quiet2 .ensures))
-
-quiet-requires-3 : tie.Need-quiet-requires-3
-quiet-requires-3 c κs = search needs
 
 returns-3 : tie.Need-returns-3
 returns-3 c =
@@ -35,4 +23,6 @@ returns-3 c =
     (c .quiet3 .ensures))
 
 pub select-protection-spec : {M : Type 1} → statement M
-select-protection-spec = tie.close (tie.spec get-requires quiet-requires returns quiet-requires-2 returns-2 quiet-requires-3 returns-3)
+select-protection-spec =
+    tie.close
+    (tie.spec (λ c κs. search needs) (λ c κs. search needs) returns (λ c κs. search needs) returns-2 (λ c κs. search needs) returns-3)

@@ -7,21 +7,6 @@ use Rattle.parser.proofs.Choice.{take-no}
 use Rattle.csi.proofs.sequences.marked_sequence.Statement.{statement}
 use Rattle.csi.proofs.sequences.marked_sequence.Tie as tie
 
-selective-erase-in-display-requires : tie.Need-selective-erase-in-display-requires
-selective-erase-in-display-requires c κs = search needs
-
-selective-erase-in-line-requires : tie.Need-selective-erase-in-line-requires
-selective-erase-in-line-requires c κs = search needs
-
-dec-modes-requires : tie.Need-dec-modes-requires
-dec-modes-requires c κs = search needs
-
-dec-modes-requires-2 : tie.Need-dec-modes-requires-2
-dec-modes-requires-2 c κs = search needs
-
-quiet-requires : tie.Need-quiet-requires
-quiet-requires c κs = search needs
-
 returns : tie.Need-returns
 returns c = c .selective-erase-in-display .ensures ∙ ap (markedSequence (c .before .before .args .core) (c .before .before .args .params)) (sym (c .before .match .keys1))
 
@@ -44,4 +29,7 @@ returns-5 c =
     (c .quiet .ensures))))
 
 pub marked-sequence-spec : {M : Type 1} → statement M
-marked-sequence-spec = tie.close (tie.spec selective-erase-in-display-requires selective-erase-in-line-requires dec-modes-requires dec-modes-requires-2 quiet-requires returns returns-2 returns-3 returns-4 returns-5)
+marked-sequence-spec =
+    tie.close
+    (tie.spec (λ c κs. search needs) (λ c κs. search needs) (λ c κs. search needs) (λ c κs. search needs) (λ c κs. search needs) returns returns-2
+    returns-3 returns-4 returns-5)

@@ -7,62 +7,8 @@ use Rattle.parser.proofs.Choice.{take-no}
 use Rattle.csi.proofs.sequences.plain_sequence.Statement.{statement}
 use Rattle.csi.proofs.sequences.plain_sequence.Tie as tie
 
-insert-characters-requires : tie.Need-insert-characters-requires
-insert-characters-requires c κs = search needs
-
-cursor-up-requires : tie.Need-cursor-up-requires
-cursor-up-requires c κs = search needs
-
-cursor-down-requires : tie.Need-cursor-down-requires
-cursor-down-requires c κs = search needs
-
-cursor-right-requires : tie.Need-cursor-right-requires
-cursor-right-requires c κs = search needs
-
-cursor-left-requires : tie.Need-cursor-left-requires
-cursor-left-requires c κs = search needs
-
-cursor-position-requires : tie.Need-cursor-position-requires
-cursor-position-requires c κs = search needs
-
-erase-in-display-requires : tie.Need-erase-in-display-requires
-erase-in-display-requires c κs = search needs
-
-erase-in-line-requires : tie.Need-erase-in-line-requires
-erase-in-line-requires c κs = search needs
-
-insert-lines-requires : tie.Need-insert-lines-requires
-insert-lines-requires c κs = search needs
-
-delete-lines-requires : tie.Need-delete-lines-requires
-delete-lines-requires c κs = search needs
-
-delete-characters-requires : tie.Need-delete-characters-requires
-delete-characters-requires c κs = search needs
-
-erase-characters-requires : tie.Need-erase-characters-requires
-erase-characters-requires c κs = search needs
-
-cursor-position-requires-2 : tie.Need-cursor-position-requires-2
-cursor-position-requires-2 c κs = search needs
-
-clear-tabs-requires : tie.Need-clear-tabs-requires
-clear-tabs-requires c κs = search needs
-
-ansi-modes-requires : tie.Need-ansi-modes-requires
-ansi-modes-requires c κs = search needs
-
-ansi-modes-requires-2 : tie.Need-ansi-modes-requires-2
-ansi-modes-requires-2 c κs = search needs
-
-select-graphic-rendition-requires : tie.Need-select-graphic-rendition-requires
-select-graphic-rendition-requires c κs = search needs
-
 set-margins-requires : tie.Need-set-margins-requires
-set-margins-requires c κs = search needs
-
-quiet-requires : tie.Need-quiet-requires
-quiet-requires c κs = search needs
+set-margins-requires c κs = c .before .pre .1 (c .match .keys18)
 
 returns : tie.Need-returns
 returns c = c .insert-characters .ensures ∙ ap (plainSequence (c .before .before .args .core) (c .before .before .args .params)) (sym (c .before .match .keys1))
@@ -142,4 +88,10 @@ returns-19 c =
     (c .quiet .ensures))))))))))))))))))
 
 pub plain-sequence-spec : {M : Type 1} → statement M
-plain-sequence-spec = tie.close (tie.spec insert-characters-requires cursor-up-requires cursor-down-requires cursor-right-requires cursor-left-requires cursor-position-requires erase-in-display-requires erase-in-line-requires insert-lines-requires delete-lines-requires delete-characters-requires erase-characters-requires cursor-position-requires-2 clear-tabs-requires ansi-modes-requires ansi-modes-requires-2 select-graphic-rendition-requires set-margins-requires quiet-requires returns returns-2 returns-3 returns-4 returns-5 returns-6 returns-7 returns-8 returns-9 returns-10 returns-11 returns-12 returns-13 returns-14 returns-15 returns-16 returns-17 returns-18 returns-19)
+plain-sequence-spec =
+    tie.close
+    (tie.spec (λ c κs. search needs) (λ c κs. search needs) (λ c κs. search needs) (λ c κs. search needs) (λ c κs. search needs)
+    (λ c κs. search needs) (λ c κs. search needs) (λ c κs. search needs) (λ c κs. search needs) (λ c κs. search needs) (λ c κs. search needs)
+    (λ c κs. search needs) (λ c κs. search needs) (λ c κs. search needs) (λ c κs. search needs) (λ c κs. search needs) (λ c κs. search needs)
+    set-margins-requires (λ c κs. search needs) returns returns-2 returns-3 returns-4 returns-5 returns-6 returns-7 returns-8 returns-9 returns-10
+    returns-11 returns-12 returns-13 returns-14 returns-15 returns-16 returns-17 returns-18 returns-19)

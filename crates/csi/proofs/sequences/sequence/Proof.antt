@@ -6,11 +6,8 @@ use Rattle.parser.proofs.Choice.{take-yes, take-no}
 use Rattle.csi.proofs.sequences.sequence.Statement.{statement}
 use Rattle.csi.proofs.sequences.sequence.Tie as tie
 
-is-plain-requires : tie.Need-is-plain-requires
-is-plain-requires c κs = search needs
-
 plain-sequence-requires : tie.Need-plain-sequence-requires
-plain-sequence-requires c κs = search needs
+plain-sequence-requires c κs = (c .before .before .pre .0, c .before .before .pre .1 (sym (c .before .is-plain .ensures) ∙ c .if1 .taken))
 
 returns : tie.Need-returns
 unfolding sequenced
@@ -18,24 +15,12 @@ returns c =
     take-yes _ _ (sym (c .before .before .is-plain .ensures) ∙ c .before .if1 .taken)
     (c .plain-sequence .ensures)
 
-is-marked-requires : tie.Need-is-marked-requires
-is-marked-requires c κs = search needs
-
-marked-sequence-requires : tie.Need-marked-sequence-requires
-marked-sequence-requires c κs = search needs
-
 returns-2 : tie.Need-returns-2
 unfolding sequenced
 returns-2 c =
     take-no _ _ (sym (c .before .before .before .before .is-plain .ensures) ∙ c .before .before .before .if1 .left)
     (take-yes _ _ (sym (c .before .before .is-marked .ensures) ∙ c .before .if2 .taken)
     (c .marked-sequence .ensures))
-
-is-protection-requires : tie.Need-is-protection-requires
-is-protection-requires c κs = search needs
-
-select-protection-requires : tie.Need-select-protection-requires
-select-protection-requires c κs = search needs
 
 returns-3 : tie.Need-returns-3
 unfolding sequenced
@@ -45,15 +30,6 @@ returns-3 c =
     (take-yes _ _ (sym (c .before .before .is-protection .ensures) ∙ c .before .if3 .taken)
     (c .select-protection .ensures)))
 
-is-soft-reset-requires : tie.Need-is-soft-reset-requires
-is-soft-reset-requires c κs = search needs
-
-soft-reset-requires : tie.Need-soft-reset-requires
-soft-reset-requires c κs = search needs
-
-quiet-requires : tie.Need-quiet-requires
-quiet-requires c κs = search needs
-
 returns-4 : tie.Need-returns-4
 unfolding sequenced
 returns-4 c =
@@ -62,9 +38,6 @@ returns-4 c =
     (take-no _ _ (sym (c .before .before .before .before .before .is-protection .ensures) ∙ c .before .before .before .before .if3 .left)
     (take-yes _ _ (sym (c .before .before .before .is-soft-reset .ensures) ∙ c .before .before .if4 .taken)
     (c .quiet .ensures ∙ rw (c .before .soft-reset .ensures)))))
-
-quiet-requires-2 : tie.Need-quiet-requires-2
-quiet-requires-2 c κs = search needs
 
 returns-5 : tie.Need-returns-5
 unfolding sequenced
@@ -76,4 +49,7 @@ returns-5 c =
     (c .quiet2 .ensures))))
 
 pub sequence-spec : {M : Type 1} → statement M
-sequence-spec = tie.close (tie.spec is-plain-requires plain-sequence-requires returns is-marked-requires marked-sequence-requires returns-2 is-protection-requires select-protection-requires returns-3 is-soft-reset-requires soft-reset-requires quiet-requires returns-4 quiet-requires-2 returns-5)
+sequence-spec =
+    tie.close
+    (tie.spec (λ c κs. search needs) plain-sequence-requires returns (λ c κs. search needs) (λ c κs. search needs) returns-2 (λ c κs. search needs)
+    (λ c κs. search needs) returns-3 (λ c κs. search needs) (λ c κs. search needs) (λ c κs. search needs) returns-4 (λ c κs. search needs) returns-5)

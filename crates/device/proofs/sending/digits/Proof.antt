@@ -1,13 +1,22 @@
--- Each arm is the definition's, by the test.
-use borrow.Author.Tests.{lt-ltb, le-ltb}
+-- The tests are where a number gets one digit more.
+use Prim.Native.Nat.{_/_}
+use native.Mathlib.Omega.{arith}
+use Rattle.device.proofs.DecimalLaws.{small-length, more-length}
 use Rattle.device.proofs.sending.digits.Statement.{statement}
 use Rattle.device.proofs.sending.digits.Tie as tie
 
 returns : tie.Need-returns
-returns c = rw (lt-ltb _ _ (c .if1 .taken))
+returns c = omega (arith, small-length (c .before .args .n) (c .if1 .taken))
 
 returns-2 : tie.Need-returns-2
-returns-2 c = rw (le-ltb _ _ (c .if1 .left))
+returns-2 c =
+    let n = c .before .before .args .n in
+    omega (arith, more-length n (c .before .if1 .left), small-length (n / 10) (omega arith))
+
+returns-3 : tie.Need-returns-3
+returns-3 c =
+    let n = c .before .before .args .n in
+    omega (arith, more-length n (c .before .if1 .left), more-length (n / 10) (omega arith), small-length (n / 10 / 10) (omega arith))
 
 pub digits-spec : {M : Type 1} → statement M
-digits-spec = tie.close (tie.spec returns returns-2)
+digits-spec = tie.close (tie.spec returns returns-2 returns-3)

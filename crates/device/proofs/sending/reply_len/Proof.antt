@@ -3,21 +3,12 @@ use native.Mathlib.Omega.{arith}
 use borrow.Author.Needs.{needs}
 use lib.ListN.{length-append}
 use Rattle.device.specs.ReplyBytes.{replyBytes}
-use Rattle.device.proofs.SendLaws.{reply-is, csi-short, body-short}
+use Rattle.device.proofs.SendLaws.{reply-is, csi-short}
 use Rattle.device.proofs.sending.reply_len.Statement.{statement}
 use Rattle.device.proofs.sending.reply_len.Tie as tie
 
-enum-told : tie.Need-enum-told
-enum-told c = search needs
-
-csi-len-requires : tie.Need-csi-len-requires
-csi-len-requires c κs = search needs
-
-body-len-requires : tie.Need-body-len-requires
-body-len-requires c κs = search needs
-
 add-result : tie.Need-add-result
-add-result c = omega (arith, c .before .csi-len .ensures, c .body-len .ensures, csi-short (c .before .before .before .args .eightbit), body-short (c .before .before .before .args .reply))
+add-result c = omega (arith, c .before .csi-len .ensures, c .body-len .ensures .few, csi-short (c .before .before .before .args .eightbit))
 
 returns : tie.Need-returns
 unfolding replyBytes
@@ -25,8 +16,7 @@ returns c = rw (c .enum-told .given .1)
 
 returns-2 : tie.Need-returns-2
 returns-2 c =
-    rw (← reply-is (c .before .before .before .args .eightbit) (c .before .before .before .args .reply) (c .before .before .match .keys2), length-append, c .before .csi-len .ensures, c .body-len .ensures)
+    rw (← reply-is (c .before .before .before .args .eightbit) (c .before .before .before .args .reply) (c .before .before .match .keys2), length-append, c .before .csi-len .ensures, c .body-len .ensures .is)
 
 pub reply-len-spec : {M : Type 1} → statement M
-reply-len-spec =
-    tie.close (tie.spec enum-told csi-len-requires body-len-requires add-result returns returns-2)
+reply-len-spec = tie.close (tie.spec (λ c. search needs) (λ c κs. search needs) (λ c κs. search needs) add-result returns returns-2)

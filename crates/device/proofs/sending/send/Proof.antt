@@ -8,9 +8,6 @@ use Rattle.device.proofs.SendLaws.{reply-is}
 use Rattle.device.proofs.sending.send.Statement.{statement}
 use Rattle.device.proofs.sending.send.Tie as tie
 
-enum-told : tie.Need-enum-told
-enum-told c = search needs
-
 send-csi-requires : tie.Need-send-csi-requires
 send-csi-requires c κs =
     let h = rw (← reply-is (c .before .before .before .args .eightbit) (c .before .before .before .args .reply) (c .before .match .keys2), length-append) at (c .before .before .before .pre) in
@@ -25,13 +22,8 @@ returns : tie.Need-returns
 unfolding replyBytes
 returns c = rw (c .enum-told .given .1) (wrote-none _ _)
 
-same-length : tie.Need-same-length
-same-length c = search needs
-
 returns-2 : tie.Need-returns-2
 returns-2 c = rw (← reply-is (c .before .before .before .before .before .before .before .before .before .before .args .eightbit) (c .before .before .before .before .before .before .before .before .before .before .args .reply) (c .before .before .before .before .before .before .before .before .match .keys2)) (wrote-more (c .before .before .before .before .before .before .send-csi .ensures) (c .before .before .send-body .ensures))
 
 pub send-spec : {M : Type 1} → statement M
-send-spec =
-    tie.close
-    (tie.spec enum-told send-csi-requires send-body-requires returns same-length returns-2)
+send-spec = tie.close (tie.spec (λ c. search needs) send-csi-requires send-body-requires returns (λ c. search needs) returns-2)

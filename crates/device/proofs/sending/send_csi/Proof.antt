@@ -6,20 +6,11 @@ use Rattle.device.proofs.sending.send_csi.Tie as tie
 send-byte-requires : tie.Need-send-byte-requires
 send-byte-requires c κs = rw (c .before .if1 .taken) at (c .before .before .before .pre)
 
-same-length : tie.Need-same-length
-same-length c = search needs
-
 returns : tie.Need-returns
 returns c = rw (c .before .before .before .before .if1 .taken) (c .before .before .send-byte .ensures)
 
-slice-aggregate-send-text : tie.Need-slice-aggregate-send-text
-slice-aggregate-send-text c = search needs
-
 send-text-requires : tie.Need-send-text-requires
 send-text-requires c κs = rw (c .before .before .if1 .left) at (c .before .before .before .before .pre)
-
-same-length-2 : tie.Need-same-length-2
-same-length-2 c = search needs
 
 returns-2 : tie.Need-returns-2
 returns-2 c = rw (c .before .before .before .before .before .if1 .left) (c .before .before .send-text .ensures)
@@ -27,11 +18,4 @@ returns-2 c = rw (c .before .before .before .before .before .if1 .left) (c .befo
 pub send-csi-spec : {M : Type 1} → statement M
 send-csi-spec =
     tie.close
-    (tie.spec
-    send-byte-requires
-    same-length
-    returns
-    slice-aggregate-send-text
-    send-text-requires
-    same-length-2
-    returns-2)
+    (tie.spec send-byte-requires (λ c. search needs) returns (λ c. search needs) send-text-requires (λ c. search needs) returns-2)

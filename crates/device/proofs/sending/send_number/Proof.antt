@@ -1,52 +1,30 @@
--- One digit or two are written, by the test on the number.
-use borrow.Author.Tests.{lt-ltb, le-ltb}
+-- A third digit comes after the decimal of the tenth part.
 use native.Mathlib.Omega.{arith}
 use borrow.Author.Needs.{needs}
 use Rattle.cells.proofs.Writing.{wrote-more}
+use Rattle.device.proofs.DecimalLaws.{decimal-more, more-length}
 use Rattle.device.proofs.sending.send_number.Statement.{statement}
 use Rattle.device.proofs.sending.send_number.Tie as tie
 
-add-send-byte : tie.Need-add-send-byte
-add-send-byte c = search needs
+send-small-number-requires-2 : tie.Need-send-small-number-requires-2
+send-small-number-requires-2 c κs =
+    let start = c .before .before .before in
+    (search needs, omega (arith, start .pre, more-length (start .args .n) (omega arith)))
 
 send-byte-requires : tie.Need-send-byte-requires
-send-byte-requires c κs = rw (lt-ltb _ _ (c .before .if1 .taken)) at (c .before .before .before .pre)
-
-same-length : tie.Need-same-length
-same-length c = search needs
-
-returns : tie.Need-returns
-returns c = rw (lt-ltb _ _ (c .before .before .before .before .if1 .taken)) (c .before .before .send-byte .ensures)
-
-add-send-byte-2 : tie.Need-add-send-byte-2
-add-send-byte-2 c = search needs
-
-send-byte-requires-2 : tie.Need-send-byte-requires-2
-send-byte-requires-2 c κs = let h = rw (le-ltb _ _ (c .before .if1 .left)) at (c .before .before .before .pre) in omega arith
-
-add-send-byte-3 : tie.Need-add-send-byte-3
-add-send-byte-3 c = search needs
-
-send-byte-requires-3 : tie.Need-send-byte-requires-3
-send-byte-requires-3 c κs = let h = rw (le-ltb _ _ (c .before .before .before .before .before .if1 .left)) at (c .before .before .before .before .before .before .before .pre) in omega (arith, c .before .before .before .send-byte2 .ensures)
-
-same-length-2 : tie.Need-same-length-2
-same-length-2 c = search needs
+send-byte-requires c κs =
+    let sent = c .before .before .before in
+    let start = sent .before .before .before .before in
+    omega (arith, start .pre, more-length (start .args .n) (omega arith), sent .send-small-number2 .ensures)
 
 returns-2 : tie.Need-returns-2
-returns-2 c = rw (le-ltb _ _ (c .before .before .before .before .before .before .before .before .if1 .left)) (wrote-more (c .before .before .before .before .before .before .send-byte2 .ensures) (c .before .before .send-byte3 .ensures))
+returns-2 c =
+    let sent = c .before .before .before .before .before .before in
+    let start = sent .before .before .before .before in
+    rw (decimal-more (start .args .n) (omega arith)) (wrote-more (sent .send-small-number2 .ensures) (c .before .before .send-byte .ensures))
 
 pub send-number-spec : {M : Type 1} → statement M
 send-number-spec =
     tie.close
-    (tie.spec
-    add-send-byte
-    send-byte-requires
-    same-length
-    returns
-    add-send-byte-2
-    send-byte-requires-2
-    add-send-byte-3
-    send-byte-requires-3
-    same-length-2
-    returns-2)
+    (tie.spec (λ c κs. search needs) (λ c. search needs) (λ c. search needs) send-small-number-requires-2 (λ c. search needs) send-byte-requires
+    (λ c. search needs) returns-2)

@@ -15,13 +15,8 @@ send-byte-requires c κs = omega (arith, c .before .before .before .before .befo
 send-number-requires-2 : tie.Need-send-number-requires-2
 send-number-requires-2 c κs = omega (arith, c .before .before .before .before .before .before .before .before .before .before .pre, place-length (c .before .before .before .before .before .before .before .before .before .before .args .row) (c .before .before .before .before .before .before .before .before .before .before .args .column), c .before .before .before .before .before .before .before .send-number .ensures, c .before .before .before .send-byte .ensures)
 
-same-length : tie.Need-same-length
-same-length c = search needs
-
 returns : tie.Need-returns
 returns c = wrote-more (wrote-more (c .before .before .before .before .before .before .before .before .before .before .send-number .ensures) (c .before .before .before .before .before .before .send-byte .ensures)) (c .before .before .send-number2 .ensures)
 
 pub send-place-spec : {M : Type 1} → statement M
-send-place-spec =
-    tie.close
-    (tie.spec send-number-requires send-byte-requires send-number-requires-2 same-length returns)
+send-place-spec = tie.close (tie.spec send-number-requires send-byte-requires send-number-requires-2 (λ c. search needs) returns)

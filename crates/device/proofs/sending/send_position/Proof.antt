@@ -12,12 +12,8 @@ send-place-requires c κs = omega (arith, place-length (c .before .before .args 
 send-byte-requires : tie.Need-send-byte-requires
 send-byte-requires c κs = omega (arith, c .before .before .before .before .before .before .pre, place-length (c .before .before .before .before .before .before .args .row) (c .before .before .before .before .before .before .args .column), position-length (c .before .before .before .before .before .before .args .row) (c .before .before .before .before .before .before .args .column), c .before .before .before .send-place .ensures)
 
-same-length : tie.Need-same-length
-same-length c = search needs
-
 returns : tie.Need-returns
 returns c = wrote-more (c .before .before .before .before .before .before .send-place .ensures) (c .before .before .send-byte .ensures)
 
 pub send-position-spec : {M : Type 1} → statement M
-send-position-spec =
-    tie.close (tie.spec send-place-requires send-byte-requires same-length returns)
+send-position-spec = tie.close (tie.spec send-place-requires send-byte-requires (λ c. search needs) returns)

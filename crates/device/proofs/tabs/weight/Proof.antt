@@ -8,11 +8,8 @@ use lib.Dec.{lit<}
 use Rattle.device.proofs.tabs.weight.Statement.{statement}
 use Rattle.device.proofs.tabs.weight.Tie as tie
 
-shl-result : tie.Need-shl-result
-shl-result c = search needs
-
 returns : tie.Need-returns
 returns c = shl-exact 1 (c .args .k) 8 (lit< tt) (omega arith) ∙ one-mul _
 
 pub weight-spec : {M : Type 1} → statement M
-weight-spec = tie.close (tie.spec shl-result returns)
+weight-spec = tie.close (tie.spec (λ c. search needs) returns)

@@ -2,50 +2,15 @@
 use mathlib.Core.Path.{sym, ap, _∙_}
 use borrow.Author.Needs.{needs}
 use Rattle.dispatch.specs.Decide.{effect}
+use Rattle.dispatch.proofs.HeardLaws.{heard-taken}
 use Rattle.dispatch.proofs.decide.effect.Statement.{statement}
 use Rattle.dispatch.proofs.decide.effect.Tie as tie
 
-enum-told : tie.Need-enum-told
-enum-told c = search needs
-
-quiet-requires : tie.Need-quiet-requires
-quiet-requires c κs = search needs
-
-enum-known-action : tie.Need-enum-known-action
-enum-known-action c = search needs
-
-print-requires : tie.Need-print-requires
-print-requires c κs = search needs
-
-enum-told-2 : tie.Need-enum-told-2
-enum-told-2 c = search needs
-
-substitute-requires : tie.Need-substitute-requires
-substitute-requires c κs = search needs
-
-enum-known-action-2 : tie.Need-enum-known-action-2
-enum-known-action-2 c = search needs
-
-control-requires : tie.Need-control-requires
-control-requires c κs = search needs
-
-enum-known-action-3 : tie.Need-enum-known-action-3
-enum-known-action-3 c = search needs
-
-c1-control-requires : tie.Need-c1-control-requires
-c1-control-requires c κs = search needs
-
-enum-known-action-4 : tie.Need-enum-known-action-4
-enum-known-action-4 c = search needs
-
-escape-requires : tie.Need-escape-requires
-escape-requires c κs = search needs
-
-enum-known-action-5 : tie.Need-enum-known-action-5
-enum-known-action-5 c = search needs
-
+-- DECSTBM is heard where its margins are taken
 sequence-requires : tie.Need-sequence-requires
-sequence-requires c κs = search needs
+sequence-requires c κs =
+    let start = c .before .before .before .before in
+    (start .pre .0, heard-taken (start .args .core) (start .args .action) _ _ _ _ (start .pre .1) (c .before .before .action5 .given .1))
 
 returns : tie.Need-returns
 returns c = c .quiet .ensures ∙ ap (effect (c .before .before .before .args .core)) (sym (c .before .enum-told .given .1))
@@ -66,7 +31,14 @@ returns-6 : tie.Need-returns-6
 returns-6 c = c .escape .ensures ∙ ap (effect (c .before .before .before .before .args .core)) (sym (c .before .before .action4 .given .1))
 
 returns-7 : tie.Need-returns-7
-returns-7 c = c .sequence .ensures ∙ ap (effect (c .before .before .before .before .before .args .core)) (sym (c .before .before .before .action5 .given .1))
+returns-7 c =
+    let known = c .before .before .before in
+    c .sequence .ensures ∙ ap (effect (known .before .before .args .core)) (sym (known .action5 .given .1))
 
 pub effect-spec : {M : Type 1} → statement M
-effect-spec = tie.close (tie.spec enum-told quiet-requires enum-known-action print-requires enum-told-2 substitute-requires enum-known-action-2 control-requires enum-known-action-3 c1-control-requires enum-known-action-4 escape-requires enum-known-action-5 sequence-requires returns returns-2 returns-3 returns-4 returns-5 returns-6 returns-7)
+effect-spec =
+    tie.close
+    (tie.spec (λ c. search needs) (λ c κs. search needs) (λ c. search needs) (λ c κs. search needs)
+    (λ c. search needs) (λ c κs. search needs) (λ c. search needs) (λ c κs. search needs)
+    (λ c. search needs) (λ c κs. search needs) (λ c. search needs) (λ c κs. search needs) (λ c. search needs) sequence-requires
+    returns returns-2 returns-3 returns-4 returns-5 returns-6 returns-7)

@@ -3,12 +3,6 @@ use borrow.Author.Needs.{needs}
 use Rattle.dispatch.proofs.reply.marked_reply.Statement.{statement}
 use Rattle.dispatch.proofs.reply.marked_reply.Tie as tie
 
-get-requires : tie.Need-get-requires
-get-requires c κs = search needs
-
-reported-row-requires : tie.Need-reported-row-requires
-reported-row-requires c κs = search needs
-
 returns : tie.Need-returns
 returns c = rw (← c .before .before .get .ensures, c .before .if1 .taken, c .reported-row .ensures)
 
@@ -19,5 +13,4 @@ returns-3 : tie.Need-returns-3
 returns-3 c = rw (← c .before .before .get .ensures, c .before .if1 .left, c .if2 .left)
 
 pub marked-reply-spec : {M : Type 1} → statement M
-marked-reply-spec =
-    tie.close (tie.spec get-requires reported-row-requires returns returns-2 returns-3)
+marked-reply-spec = tie.close (tie.spec (λ c κs. search needs) (λ c κs. search needs) returns returns-2 returns-3)

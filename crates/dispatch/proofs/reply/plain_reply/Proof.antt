@@ -3,17 +3,11 @@ use borrow.Author.Needs.{needs}
 use Rattle.dispatch.proofs.reply.plain_reply.Statement.{statement}
 use Rattle.dispatch.proofs.reply.plain_reply.Tie as tie
 
-get-requires : tie.Need-get-requires
-get-requires c κs = search needs
-
 returns : tie.Need-returns
 returns c = rw (← c .before .get .ensures, c .if1 .taken)
 
 returns-2 : tie.Need-returns-2
 returns-2 c = rw (← c .before .before .get .ensures, c .before .if1 .left, c .if2 .taken)
-
-reported-row-requires : tie.Need-reported-row-requires
-reported-row-requires c κs = search needs
 
 returns-3 : tie.Need-returns-3
 returns-3 c = rw (← c .before .before .before .before .get .ensures, c .before .before .before .if1 .left, c .before .before .if2 .left, c .before .if3 .taken, c .reported-row .ensures)
@@ -22,5 +16,4 @@ returns-4 : tie.Need-returns-4
 returns-4 c = rw (← c .before .before .before .get .ensures, c .before .before .if1 .left, c .before .if2 .left, c .if3 .left)
 
 pub plain-reply-spec : {M : Type 1} → statement M
-plain-reply-spec =
-    tie.close (tie.spec get-requires returns returns-2 reported-row-requires returns-3 returns-4)
+plain-reply-spec = tie.close (tie.spec (λ c κs. search needs) returns returns-2 (λ c κs. search needs) returns-3 returns-4)

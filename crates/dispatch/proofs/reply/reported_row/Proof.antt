@@ -5,15 +5,6 @@ use Rattle.device.proofs.CursorLaws.{counted}
 use Rattle.dispatch.proofs.reply.reported_row.Statement.{statement}
 use Rattle.dispatch.proofs.reply.reported_row.Tie as tie
 
-pick-requires : tie.Need-pick-requires
-pick-requires c κs = search needs
-
-cast-back : tie.Need-cast-back
-cast-back c = search needs
-
-back-requires : tie.Need-back-requires
-back-requires c κs = search needs
-
 add-result : tie.Need-add-result
 add-result c = omega (arith, c .back .ensures)
 
@@ -23,4 +14,4 @@ returns c =
     rw (c .back .ensures, c .before .pick .ensures) (counted (k .args .core .modes .origin) (k .args .core .cursor .row) (k .args .core .margins .top) (k .pre .row-low))
 
 pub reported-row-spec : {M : Type 1} → statement M
-reported-row-spec = tie.close (tie.spec pick-requires cast-back back-requires add-result returns)
+reported-row-spec = tie.close (tie.spec (λ c κs. search needs) (λ c. search needs) (λ c κs. search needs) add-result returns)

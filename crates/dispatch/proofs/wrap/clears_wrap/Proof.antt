@@ -1,52 +1,54 @@
--- Each arm is the definition's clause for that action.
+-- Each arm is the policy's clause for that action, which is not ignored.
 use mathlib.Core.Path.{sym, ap, _∙_}
+use mathlib.Core.Bool.{Bool, not, _&&_}
 use borrow.Author.Needs.{needs}
-use Rattle.dispatch.specs.WrapDue.{clearsWrap}
+use Rattle.parser.specs.declared.params.Params.{Params}
+use Rattle.parser.specs.declared.parser.Action.{Action}
+use Rattle.dispatch.specs.Heard.{isListed}
+use Rattle.dispatch.specs.WrapDue.{keepsWrap}
 use Rattle.dispatch.proofs.ActionLaws.{keeps-wrap}
+use Rattle.dispatch.proofs.WrapLaws.{clears-listed}
 use Rattle.dispatch.proofs.wrap.clears_wrap.Statement.{statement}
 use Rattle.dispatch.proofs.wrap.clears_wrap.Tie as tie
 
-enum-known-action : tie.Need-enum-known-action
-enum-known-action c = search needs
-
-control-clears-requires : tie.Need-control-clears-requires
-control-clears-requires c κs = search needs
-
-enum-known-action-2 : tie.Need-enum-known-action-2
-enum-known-action-2 c = search needs
-
-c1-clears-requires : tie.Need-c1-clears-requires
-c1-clears-requires c κs = search needs
-
-enum-known-action-3 : tie.Need-enum-known-action-3
-enum-known-action-3 c = search needs
-
-escape-clears-requires : tie.Need-escape-clears-requires
-escape-clears-requires c κs = search needs
-
-enum-known-action-4 : tie.Need-enum-known-action-4
-enum-known-action-4 c = search needs
-
-sequence-clears-requires : tie.Need-sequence-clears-requires
-sequence-clears-requires c κs = search needs
+-- it is listed and no keeper
+listed-clears : Params → Action → Bool
+listed-clears q a = isListed a && not (keepsWrap q a)
 
 returns : tie.Need-returns
-unfolding clearsWrap
-returns c = c .control-clears .ensures ∙ ap (clearsWrap (c .before .before .before .before .args .core)) (sym (c .before .before .action .given .1))
+unfolding listed-clears
+returns c =
+    let start = c .before .before .before .before in
+    c .control-clears .ensures ∙ ap (listed-clears (start .args .core .parser .params)) (sym (c .before .before .action .given .1))
+    ∙ clears-listed (start .args .core) (start .args .action) (start .pre)
 
 returns-2 : tie.Need-returns-2
-unfolding clearsWrap
-returns-2 c = c .c1-clears .ensures ∙ ap (clearsWrap (c .before .before .before .before .args .core)) (sym (c .before .before .action2 .given .1))
+unfolding listed-clears
+returns-2 c =
+    let start = c .before .before .before .before in
+    c .c1-clears .ensures ∙ ap (listed-clears (start .args .core .parser .params)) (sym (c .before .before .action2 .given .1))
+    ∙ clears-listed (start .args .core) (start .args .action) (start .pre)
 
 returns-3 : tie.Need-returns-3
-unfolding clearsWrap
-returns-3 c = c .escape-clears .ensures ∙ ap (clearsWrap (c .before .before .before .before .args .core)) (sym (c .before .before .action3 .given .1))
+unfolding listed-clears
+returns-3 c =
+    let start = c .before .before .before .before in
+    c .escape-clears .ensures ∙ ap (listed-clears (start .args .core .parser .params)) (sym (c .before .before .action3 .given .1))
+    ∙ clears-listed (start .args .core) (start .args .action) (start .pre)
 
 returns-4 : tie.Need-returns-4
-returns-4 c = c .sequence-clears .ensures ∙ ap (clearsWrap (c .before .before .before .before .args .core)) (sym (c .before .before .action4 .given .1))
+unfolding listed-clears
+returns-4 c =
+    let start = c .before .before .before .before .before in
+    c .sequence-clears .ensures ∙ ap (listed-clears (start .args .core .parser .params)) (sym (c .before .before .before .action4 .given .1))
+    ∙ clears-listed (start .args .core) (start .args .action) (start .pre)
 
 returns-5 : tie.Need-returns-5
 returns-5 c = keeps-wrap (c .before .args .core) (c .before .args .action) (c .match .keys5)
 
 pub clears-wrap-spec : {M : Type 1} → statement M
-clears-wrap-spec = tie.close (tie.spec enum-known-action control-clears-requires enum-known-action-2 c1-clears-requires enum-known-action-3 escape-clears-requires enum-known-action-4 sequence-clears-requires returns returns-2 returns-3 returns-4 returns-5)
+clears-wrap-spec =
+    tie.close
+    (tie.spec (λ c. search needs) (λ c κs. search needs) (λ c. search needs) (λ c κs. search needs)
+    (λ c. search needs) (λ c κs. search needs) (λ c. search needs) (λ c κs. search needs)
+    returns returns-2 returns-3 returns-4 returns-5)

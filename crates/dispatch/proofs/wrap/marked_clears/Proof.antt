@@ -1,48 +1,29 @@
--- Each way is the definition's, by the final byte.
-use borrow.Author.Tests.{eq-eqb, ne-eqb}
+-- Each arm is the definition's for that final byte.
 use mathlib.Core.Path.{sym, _∙_}
 use borrow.Author.Needs.{needs}
-use Rattle.parser.proofs.Choice.{take-yes, take-no}
+use mathlib.Core.Bool.{Bool·not-not}
+use Rattle.dispatch.proofs.WrapLaws.{marked-rest}
 use Rattle.dispatch.proofs.wrap.marked_clears.Statement.{statement}
 use Rattle.dispatch.proofs.wrap.marked_clears.Tie as tie
 
-is-erase-requires : tie.Need-is-erase-requires
-is-erase-requires c κs = search needs
-
-get-requires : tie.Need-get-requires
-get-requires c κs = search needs
-
 returns : tie.Need-returns
-returns c =
-    take-yes _ _ (sym (c .before .before .is-erase .ensures) ∙ c .before .if1 .taken)
-    (rw (c .get .ensures))
-
-has-requires : tie.Need-has-requires
-has-requires c κs = search needs
+returns c = simp (c .match .keys1)
 
 returns-2 : tie.Need-returns-2
-returns-2 c =
-    take-no _ _ (sym (c .before .before .before .is-erase .ensures) ∙ c .before .before .if1 .left)
-    (take-yes _ _ (eq-eqb _ _ (c .before .if2 .taken))
-    (c .has .ensures))
-
-has-requires-2 : tie.Need-has-requires-2
-has-requires-2 c κs = search needs
-
-has-requires-3 : tie.Need-has-requires-3
-has-requires-3 c κs = search needs
+returns-2 c = simp (c .match .keys2)
 
 returns-3 : tie.Need-returns-3
-returns-3 c =
-    take-no _ _ (sym (c .before .before .before .before .before .is-erase .ensures) ∙ c .before .before .before .before .if1 .left)
-    (take-no _ _ (ne-eqb _ _ (c .before .before .before .if2 .left))
-    (rw (eq-eqb _ _ (c .before .before .if3 .taken), c .before .has2 .ensures, c .has3 .ensures)))
+returns-3 c = simp (c .before .match .keys3) (c .has .ensures ∙ sym (Bool·not-not _))
 
 returns-4 : tie.Need-returns-4
-returns-4 c =
-    take-no _ _ (sym (c .before .before .before .is-erase .ensures) ∙ c .before .before .if1 .left)
-    (take-no _ _ (ne-eqb _ _ (c .before .if2 .left))
-    (rw (ne-eqb _ _ (c .if3 .left))))
+returns-4 c = simp (c .before .before .match .keys4) (rw (c .before .has2 .ensures, c .has3 .ensures) (sym (Bool·not-not _)))
+
+returns-5 : tie.Need-returns-5
+returns-5 c =
+    let rest = c .match .rest in
+    marked-rest (c .before .args .params) (c .before .args .last) (rest .0 .0 .0 .1) (rest .0 .0 .1) (rest .0 .1) (rest .1)
 
 pub marked-clears-spec : {M : Type 1} → statement M
-marked-clears-spec = tie.close (tie.spec is-erase-requires get-requires returns has-requires returns-2 has-requires-2 has-requires-3 returns-3 returns-4)
+marked-clears-spec =
+    tie.close
+    (tie.spec (λ c κs. search needs) (λ c κs. search needs) (λ c κs. search needs) returns returns-2 returns-3 returns-4 returns-5)

@@ -1,52 +1,29 @@
--- Each way is the definition's, by the final byte.
+-- At each final the answer is the definition's: the listed ones compute, the others by a computed comparison over all bytes.
 use mathlib.Core.Path.{refl, sym, _∙_}
+use mathlib.Core.Bool.{not, _&&_}
+use mathlib.Core.List.{[], _∷_}
 use borrow.Author.Needs.{needs}
-use Rattle.parser.proofs.Choice.{take-yes, take-no}
+use borrow.Author.Tests.{ne-eqb}
+use Prim.Native.Nat.{ℕ}
+use Rattle.parser.specs.Params.{member}
+use Rattle.dispatch.specs.Heard.{plainFinals}
+use Rattle.dispatch.specs.WrapDue.{keepingFinals}
+use Rattle.dispatch.proofs.WrapLaws.{alike-at}
 use Rattle.dispatch.proofs.wrap.plain_clears.Statement.{statement}
 use Rattle.dispatch.proofs.wrap.plain_clears.Tie as tie
 
-always-clears-requires : tie.Need-always-clears-requires
-always-clears-requires c κs = search needs
-
-returns : tie.Need-returns
-returns c =
-    take-yes _ _ (sym (c .before .always-clears .ensures) ∙ c .if1 .taken)
-    (refl)
-
-is-erase-requires : tie.Need-is-erase-requires
-is-erase-requires c κs = search needs
-
-get-requires : tie.Need-get-requires
-get-requires c κs = search needs
-
-returns-2 : tie.Need-returns-2
-returns-2 c =
-    take-no _ _ (sym (c .before .before .before .before .always-clears .ensures) ∙ c .before .before .before .if1 .left)
-    (take-yes _ _ (sym (c .before .before .is-erase .ensures) ∙ c .before .if2 .taken)
-    (rw (c .get .ensures)))
-
-is-insert-requires : tie.Need-is-insert-requires
-is-insert-requires c κs = search needs
-
-inside-margins-requires : tie.Need-inside-margins-requires
-inside-margins-requires c κs = search needs
-
-returns-3 : tie.Need-returns-3
-returns-3 c =
-    take-no _ _ (sym (c .before .before .before .before .before .before .always-clears .ensures) ∙ c .before .before .before .before .before .if1 .left)
-    (take-no _ _ (sym (c .before .before .before .before .is-erase .ensures) ∙ c .before .before .before .if2 .left)
-    (take-yes _ _ (sym (c .before .before .is-insert .ensures) ∙ c .before .if3 .taken)
-    (c .inside-margins .ensures)))
-
-margins-taken-requires : tie.Need-margins-taken-requires
-margins-taken-requires c κs = search needs
-
-returns-4 : tie.Need-returns-4
-returns-4 c =
-    take-no _ _ (sym (c .before .before .before .before .before .before .always-clears .ensures) ∙ c .before .before .before .before .before .if1 .left)
-    (take-no _ _ (sym (c .before .before .before .before .is-erase .ensures) ∙ c .before .before .before .if2 .left)
-    (take-no _ _ (sym (c .before .before .is-insert .ensures) ∙ c .before .if3 .left)
-    (rw (c .margins-taken .ensures))))
+returns-15 : tie.Need-returns-15
+returns-15 c =
+    let b = c .before .args .last in
+    let r = c .match .rest in
+    sym
+    (alike-at (λ (x : ℕ). member x plainFinals && not (member x keepingFinals))
+    (λ (x : ℕ). member x (0x40 ∷ 0x41 ∷ 0x42 ∷ 0x43 ∷ 0x44 ∷ 0x48 ∷ 0x4A ∷ 0x4B ∷ 0x4C ∷ 0x4D ∷ 0x50 ∷ 0x58 ∷ 0x66 ∷ 0x72 ∷ []))
+    256 refl b (search needs)
+    ∙ rw (ne-eqb b 0x40 (r .0 .0 .0 .0 .0 .0 .0 .0 .0 .0 .0 .0 .0 .1), ne-eqb b 0x41 (r .0 .0 .0 .0 .0 .0 .0 .0 .0 .0 .0 .0 .1), ne-eqb b 0x42 (r .0 .0 .0 .0 .0 .0 .0 .0 .0 .0 .0 .1), ne-eqb b 0x43 (r .0 .0 .0 .0 .0 .0 .0 .0 .0 .0 .1), ne-eqb b 0x44 (r .0 .0 .0 .0 .0 .0 .0 .0 .0 .1), ne-eqb b 0x48 (r .0 .0 .0 .0 .0 .0 .0 .0 .1), ne-eqb b 0x4A (r .0 .0 .0 .0 .0 .0 .0 .1))
+    (rw (ne-eqb b 0x4B (r .0 .0 .0 .0 .0 .0 .1), ne-eqb b 0x4C (r .0 .0 .0 .0 .0 .1), ne-eqb b 0x4D (r .0 .0 .0 .0 .1), ne-eqb b 0x50 (r .0 .0 .0 .1), ne-eqb b 0x58 (r .0 .0 .1), ne-eqb b 0x66 (r .0 .1), ne-eqb b 0x72 (r .1))))
 
 pub plain-clears-spec : {M : Type 1} → statement M
-plain-clears-spec = tie.close (tie.spec always-clears-requires returns is-erase-requires get-requires returns-2 is-insert-requires inside-margins-requires returns-3 margins-taken-requires returns-4)
+plain-clears-spec =
+    tie.close
+    (tie.spec (λ c. simp (c .match .keys1)) (λ c. simp (c .match .keys2)) (λ c. simp (c .match .keys3)) (λ c. simp (c .match .keys4)) (λ c. simp (c .match .keys5)) (λ c. simp (c .match .keys6)) (λ c. simp (c .match .keys7)) (λ c. simp (c .match .keys8)) (λ c. simp (c .match .keys9)) (λ c. simp (c .match .keys10)) (λ c. simp (c .match .keys11)) (λ c. simp (c .match .keys12)) (λ c. simp (c .match .keys13)) (λ c. simp (c .match .keys14)) returns-15)

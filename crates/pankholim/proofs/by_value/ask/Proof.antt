@@ -4,18 +4,6 @@ use Rattle.pankholim.proofs.CallLaws.{ask-leaves}
 use Rattle.pankholim.proofs.by_value.ask.Statement.{statement}
 use Rattle.pankholim.proofs.by_value.ask.Tie as tie
 
-state-of-requires : tie.Need-state-of-requires
-state-of-requires c κs = search needs
-
-ask-requires : tie.Need-ask-requires
-ask-requires c κs = search needs
-
-number-requires : tie.Need-number-requires
-number-requires c κs = search needs
-
-record-left-requires : tie.Need-record-left-requires
-record-left-requires c κs = search needs
-
 returns : tie.Need-returns
 returns c =
     let a = c .before .before in
@@ -23,6 +11,4 @@ returns c =
     ask-leaves (s .before .args .terminal) _ (a .ask .result) _ _ (s .state-of .ensures) (a .ask .ensures) (c .before .number .ensures) (c .record-left .ensures)
 
 pub ask-spec : {M : Type 1} → statement M
-ask-spec =
-    tie.close
-    (tie.spec state-of-requires ask-requires number-requires record-left-requires returns)
+ask-spec = tie.close (tie.spec (λ c κs. search needs) (λ c κs. search needs) (λ c κs. search needs) (λ c κs. search needs) returns)

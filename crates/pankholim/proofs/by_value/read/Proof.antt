@@ -4,15 +4,6 @@ use Rattle.pankholim.proofs.CallLaws.{read-leaves}
 use Rattle.pankholim.proofs.by_value.read.Statement.{statement}
 use Rattle.pankholim.proofs.by_value.read.Tie as tie
 
-state-of-requires : tie.Need-state-of-requires
-state-of-requires c κs = search needs
-
-read-requires : tie.Need-read-requires
-read-requires c κs = search needs
-
-number-requires : tie.Need-number-requires
-number-requires c κs = search needs
-
 returns : tie.Need-returns
 returns c =
     let f = c .before in
@@ -21,4 +12,4 @@ returns c =
     read-leaves (a .terminal) _ (a .page .now) (a .row) (a .column) (f .read .result) _ (s .state-of .ensures) (f .read .ensures) (c .number .ensures)
 
 pub read-spec : {M : Type 1} → statement M
-read-spec = tie.close (tie.spec state-of-requires read-requires number-requires returns)
+read-spec = tie.close (tie.spec (λ c κs. search needs) (λ c κs. search needs) (λ c κs. search needs) returns)

@@ -4,17 +4,11 @@ use mathlib.Core.Path.{sym, _∙_}
 use Rattle.pankholim.proofs.by_value.record_left.Statement.{statement}
 use Rattle.pankholim.proofs.by_value.record_left.Tie as tie
 
-refused-requires : tie.Need-refused-requires
-refused-requires c κs = search needs
-
 returns : tie.Need-returns
 returns c = rw (sym (c .before .refused .ensures) ∙ c .if1 .taken)
-
-record-of-requires : tie.Need-record-of-requires
-record-of-requires c κs = search needs
 
 returns-2 : tie.Need-returns-2
 returns-2 c = rw (c .record-of .ensures, sym (c .before .before .refused .ensures) ∙ c .before .if1 .left)
 
 pub record-left-spec : {M : Type 1} → statement M
-record-left-spec = tie.close (tie.spec refused-requires returns record-of-requires returns-2)
+record-left-spec = tie.close (tie.spec (λ c κs. search needs) returns (λ c κs. search needs) returns-2)

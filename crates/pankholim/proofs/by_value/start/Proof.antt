@@ -4,24 +4,11 @@ use Rattle.pankholim.proofs.CallLaws.{start-leaves}
 use Rattle.pankholim.proofs.by_value.start.Statement.{statement}
 use Rattle.pankholim.proofs.by_value.start.Tie as tie
 
-start-requires : tie.Need-start-requires
-start-requires c κs = search needs
-
-number-requires : tie.Need-number-requires
-number-requires c κs = search needs
-
-record-of-requires : tie.Need-record-of-requires
-record-of-requires c κs = search needs
-
-same-length : tie.Need-same-length
-same-length c = search needs
-
 returns : tie.Need-returns
 returns c =
     let f = c .before .before .before .before in
     let a = f .before .before .before .args in
-    start-leaves (a .rows) (a .page .now) (f .start .result) _ _ _ (f .start .ensures) (c .before .number .ensures) (c .record-of .ensures)
+    start-leaves (a .terminal) (a .rows) (a .page .now) (f .start .result) _ _ _ (f .start .ensures) (c .before .number .ensures) (c .record-left .ensures)
 
 pub start-spec : {M : Type 1} → statement M
-start-spec =
-    tie.close (tie.spec start-requires number-requires record-of-requires same-length returns)
+start-spec = tie.close (tie.spec (λ c κs. search needs) (λ c κs. search needs) (λ c κs. search needs) (λ c. search needs) returns)

@@ -3,11 +3,8 @@ use borrow.Author.Needs.{needs}
 use Rattle.pankholim.proofs.record.cursor_record.Statement.{statement}
 use Rattle.pankholim.proofs.record.cursor_record.Tie as tie
 
-flag-number-requires : tie.Need-flag-number-requires
-flag-number-requires c κs = search needs
-
 returns : tie.Need-returns
 returns c = rw (c .flag-number .ensures)
 
 pub cursor-record-spec : {M : Type 1} → statement M
-cursor-record-spec = tie.close (tie.spec flag-number-requires returns)
+cursor-record-spec = tie.close (tie.spec (λ c κs. search needs) returns)

@@ -3,11 +3,8 @@ use borrow.Author.Needs.{needs}
 use Rattle.pankholim.proofs.record.parser_record.Statement.{statement}
 use Rattle.pankholim.proofs.record.parser_record.Tie as tie
 
-phase-number-requires : tie.Need-phase-number-requires
-phase-number-requires c κs = search needs
-
 returns : tie.Need-returns
 returns c = rw (c .phase-number .ensures)
 
 pub parser-record-spec : {M : Type 1} → statement M
-parser-record-spec = tie.close (tie.spec phase-number-requires returns)
+parser-record-spec = tie.close (tie.spec (λ c κs. search needs) returns)

@@ -3,27 +3,8 @@ use borrow.Author.Needs.{needs}
 use Rattle.pankholim.proofs.record.rendition_record.Statement.{statement}
 use Rattle.pankholim.proofs.record.rendition_record.Tie as tie
 
-flag-number-requires : tie.Need-flag-number-requires
-flag-number-requires c κs = search needs
-
-flag-number-requires-2 : tie.Need-flag-number-requires-2
-flag-number-requires-2 c κs = search needs
-
-flag-number-requires-3 : tie.Need-flag-number-requires-3
-flag-number-requires-3 c κs = search needs
-
-flag-number-requires-4 : tie.Need-flag-number-requires-4
-flag-number-requires-4 c κs = search needs
-
 returns : tie.Need-returns
 returns c = rw (c .before .before .before .flag-number .ensures, c .before .before .flag-number2 .ensures, c .before .flag-number3 .ensures, c .flag-number4 .ensures)
 
 pub rendition-record-spec : {M : Type 1} → statement M
-rendition-record-spec =
-    tie.close
-    (tie.spec
-    flag-number-requires
-    flag-number-requires-2
-    flag-number-requires-3
-    flag-number-requires-4
-    returns)
+rendition-record-spec = tie.close (tie.spec (λ c κs. search needs) (λ c κs. search needs) (λ c κs. search needs) (λ c κs. search needs) returns)

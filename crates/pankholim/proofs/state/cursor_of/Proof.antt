@@ -3,11 +3,8 @@ use borrow.Author.Needs.{needs}
 use Rattle.pankholim.proofs.state.cursor_of.Statement.{statement}
 use Rattle.pankholim.proofs.state.cursor_of.Tie as tie
 
-flag-of-requires : tie.Need-flag-of-requires
-flag-of-requires c κs = search needs
-
 returns : tie.Need-returns
 returns c = rw (c .flag-of .ensures)
 
 pub cursor-of-spec : {M : Type 1} → statement M
-cursor-of-spec = tie.close (tie.spec flag-of-requires returns)
+cursor-of-spec = tie.close (tie.spec (λ c κs. search needs) returns)

@@ -3,35 +3,11 @@ use borrow.Author.Needs.{needs}
 use Rattle.pankholim.proofs.state.modes_of.Statement.{statement}
 use Rattle.pankholim.proofs.state.modes_of.Tie as tie
 
-flag-of-requires : tie.Need-flag-of-requires
-flag-of-requires c κs = search needs
-
-flag-of-requires-2 : tie.Need-flag-of-requires-2
-flag-of-requires-2 c κs = search needs
-
-flag-of-requires-3 : tie.Need-flag-of-requires-3
-flag-of-requires-3 c κs = search needs
-
-flag-of-requires-4 : tie.Need-flag-of-requires-4
-flag-of-requires-4 c κs = search needs
-
-flag-of-requires-5 : tie.Need-flag-of-requires-5
-flag-of-requires-5 c κs = search needs
-
-flag-of-requires-6 : tie.Need-flag-of-requires-6
-flag-of-requires-6 c κs = search needs
-
 returns : tie.Need-returns
 returns c = rw (c .before .before .before .before .before .flag-of .ensures, c .before .before .before .before .flag-of2 .ensures, c .before .before .before .flag-of3 .ensures, c .before .before .flag-of4 .ensures, c .before .flag-of5 .ensures, c .flag-of6 .ensures)
 
 pub modes-of-spec : {M : Type 1} → statement M
 modes-of-spec =
     tie.close
-    (tie.spec
-    flag-of-requires
-    flag-of-requires-2
-    flag-of-requires-3
-    flag-of-requires-4
-    flag-of-requires-5
-    flag-of-requires-6
-    returns)
+    (tie.spec (λ c κs. search needs) (λ c κs. search needs) (λ c κs. search needs) (λ c κs. search needs) (λ c κs. search needs)
+    (λ c κs. search needs) returns)

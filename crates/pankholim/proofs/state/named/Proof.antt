@@ -4,28 +4,9 @@ use Rattle.pankholim.specs.Record.{named}
 use Rattle.pankholim.proofs.state.named.Statement.{statement}
 use Rattle.pankholim.proofs.state.named.Tie as tie
 
-modes-named-requires : tie.Need-modes-named-requires
-modes-named-requires c κs = search needs
-
-rendition-named-requires : tie.Need-rendition-named-requires
-rendition-named-requires c κs = search needs
-
-sets-named-requires : tie.Need-sets-named-requires
-sets-named-requires c κs = search needs
-
-saved-named-requires : tie.Need-saved-named-requires
-saved-named-requires c κs = search needs
-
 returns : tie.Need-returns
 unfolding named
 returns c = rw (c .before .before .before .before .before .before .before .modes-named .ensures, c .before .before .before .before .before .before .rendition-named .ensures, c .before .before .before .before .before .sets-named .ensures, c .before .before .before .before .saved-named .ensures)
 
 pub named-spec : {M : Type 1} → statement M
-named-spec =
-    tie.close
-    (tie.spec
-    modes-named-requires
-    rendition-named-requires
-    sets-named-requires
-    saved-named-requires
-    returns)
+named-spec = tie.close (tie.spec (λ c κs. search needs) (λ c κs. search needs) (λ c κs. search needs) (λ c κs. search needs) returns)

@@ -3,11 +3,8 @@ use borrow.Author.Needs.{needs}
 use Rattle.pankholim.proofs.state.parser_of.Statement.{statement}
 use Rattle.pankholim.proofs.state.parser_of.Tie as tie
 
-phase-of-requires : tie.Need-phase-of-requires
-phase-of-requires c κs = search needs
-
 returns : tie.Need-returns
 returns c = rw (c .phase-of .ensures)
 
 pub parser-of-spec : {M : Type 1} → statement M
-parser-of-spec = tie.close (tie.spec phase-of-requires returns)
+parser-of-spec = tie.close (tie.spec (λ c κs. search needs) returns)

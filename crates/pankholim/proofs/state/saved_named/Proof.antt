@@ -3,14 +3,8 @@ use borrow.Author.Needs.{needs}
 use Rattle.pankholim.proofs.state.saved_named.Statement.{statement}
 use Rattle.pankholim.proofs.state.saved_named.Tie as tie
 
-rendition-named-requires : tie.Need-rendition-named-requires
-rendition-named-requires c κs = search needs
-
-sets-named-requires : tie.Need-sets-named-requires
-sets-named-requires c κs = search needs
-
 returns : tie.Need-returns
 returns c = rw (c .before .before .before .rendition-named .ensures, c .before .before .sets-named .ensures)
 
 pub saved-named-spec : {M : Type 1} → statement M
-saved-named-spec = tie.close (tie.spec rendition-named-requires sets-named-requires returns)
+saved-named-spec = tie.close (tie.spec (λ c κs. search needs) (λ c κs. search needs) returns)

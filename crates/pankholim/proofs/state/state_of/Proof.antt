@@ -6,23 +6,13 @@ use Rattle.pankholim.specs.Record.{stateOf}
 use Rattle.pankholim.proofs.state.state_of.Statement.{statement}
 use Rattle.pankholim.proofs.state.state_of.Tie as tie
 
-named-requires : tie.Need-named-requires
-named-requires c κs = search needs
-
-core-of-requires : tie.Need-core-of-requires
-core-of-requires c κs = search needs
-
 returns : tie.Need-returns
 unfolding stateOf
 returns c = rw (c .core-of .ensures, sym (c .before .before .named .ensures) ∙ not-true _ (c .before .if1 .taken))
-
-core-of-requires-2 : tie.Need-core-of-requires-2
-core-of-requires-2 c κs = search needs
 
 returns-2 : tie.Need-returns-2
 unfolding stateOf
 returns-2 c = rw (c .core-of2 .ensures, sym (c .before .before .named .ensures) ∙ not-false _ (c .before .if1 .left))
 
 pub state-of-spec : {M : Type 1} → statement M
-state-of-spec =
-    tie.close (tie.spec named-requires core-of-requires returns core-of-requires-2 returns-2)
+state-of-spec = tie.close (tie.spec (λ c κs. search needs) (λ c κs. search needs) returns (λ c κs. search needs) returns-2)

@@ -4,23 +4,11 @@ use borrow.Author.Needs.{needs}
 use Rattle.parser.proofs.rules.c1_rule.Statement.{statement}
 use Rattle.parser.proofs.rules.c1_rule.Tie as tie
 
-to-requires : tie.Need-to-requires
-to-requires c κs = search needs
-
 returns : tie.Need-returns
 returns c = rw (eq-eqb _ _ (c .before .if1 .taken)) (c .to .ensures)
 
-opens-string-requires : tie.Need-opens-string-requires
-opens-string-requires c κs = search needs
-
-to-requires-2 : tie.Need-to-requires-2
-to-requires-2 c κs = search needs
-
 returns-2 : tie.Need-returns-2
 returns-2 c = rw (ne-eqb _ _ (c .before .before .before .if1 .left), ← c .before .before .opens-string .ensures, c .before .if2 .taken) (c .to2 .ensures)
-
-to-requires-3 : tie.Need-to-requires-3
-to-requires-3 c κs = search needs
 
 returns-3 : tie.Need-returns-3
 returns-3 c = rw (ne-eqb _ _ (c .before .before .before .if1 .left), ← c .before .before .opens-string .ensures, c .before .if2 .left) (c .to3 .ensures)
@@ -28,11 +16,4 @@ returns-3 c = rw (ne-eqb _ _ (c .before .before .before .if1 .left), ← c .befo
 pub c1-rule-spec : {M : Type 1} → statement M
 c1-rule-spec =
     tie.close
-    (tie.spec
-    to-requires
-    returns
-    opens-string-requires
-    to-requires-2
-    returns-2
-    to-requires-3
-    returns-3)
+    (tie.spec (λ c κs. search needs) returns (λ c κs. search needs) (λ c κs. search needs) returns-2 (λ c κs. search needs) returns-3)

@@ -7,18 +7,8 @@ use Rattle.parser.proofs.rules.intermediate_rule.Tie as tie
 returns : tie.Need-returns
 returns c = rw (lt-ltb _ _ (c .if1 .taken))
 
-to-requires : tie.Need-to-requires
-to-requires c κs = search needs
-
-to-requires-2 : tie.Need-to-requires-2
-to-requires-2 c κs = search needs
-
-below-requires : tie.Need-below-requires
-below-requires c κs = search needs
-
 returns-2 : tie.Need-returns-2
 returns-2 c = rw (le-ltb _ _ (c .before .before .before .if1 .left), ← c .before .before .to .ensures, ← c .before .to2 .ensures) (c .below .ensures)
 
 pub intermediate-rule-spec : {M : Type 1} → statement M
-intermediate-rule-spec =
-    tie.close (tie.spec returns to-requires to-requires-2 below-requires returns-2)
+intermediate-rule-spec = tie.close (tie.spec returns (λ c κs. search needs) (λ c κs. search needs) (λ c κs. search needs) returns-2)

@@ -3,11 +3,8 @@ use borrow.Author.Needs.{needs}
 use Rattle.parser.proofs.rules.opens_string.Statement.{statement}
 use Rattle.parser.proofs.rules.opens_string.Tie as tie
 
-between-requires : tie.Need-between-requires
-between-requires c κs = search needs
-
 returns : tie.Need-returns
 returns c = rw (c .between .ensures)
 
 pub opens-string-spec : {M : Type 1} → statement M
-opens-string-spec = tie.close (tie.spec between-requires returns)
+opens-string-spec = tie.close (tie.spec (λ c κs. search needs) returns)

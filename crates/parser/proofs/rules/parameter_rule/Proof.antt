@@ -4,29 +4,14 @@ use borrow.Author.Needs.{needs}
 use Rattle.parser.proofs.rules.parameter_rule.Statement.{statement}
 use Rattle.parser.proofs.rules.parameter_rule.Tie as tie
 
-to-requires : tie.Need-to-requires
-to-requires c κs = search needs
-
 returns : tie.Need-returns
 returns c = rw (lt-ltb _ _ (c .before .if1 .taken)) (c .to .ensures)
-
-to-requires-2 : tie.Need-to-requires-2
-to-requires-2 c κs = search needs
 
 returns-2 : tie.Need-returns-2
 returns-2 c = rw (le-ltb _ _ (c .before .before .if1 .left), eq-eqb _ _ (c .before .if2 .taken)) (c .to2 .ensures)
 
-to-requires-3 : tie.Need-to-requires-3
-to-requires-3 c κs = search needs
-
 returns-3 : tie.Need-returns-3
 returns-3 c = rw (le-ltb _ _ (c .before .before .before .if1 .left), ne-eqb _ _ (c .before .before .if2 .left), lt-ltb _ _ (c .before .if3 .taken)) (c .to3 .ensures)
-
-to-requires-4 : tie.Need-to-requires-4
-to-requires-4 c κs = search needs
-
-below-requires : tie.Need-below-requires
-below-requires c κs = search needs
 
 returns-4 : tie.Need-returns-4
 returns-4 c =
@@ -36,13 +21,5 @@ returns-4 c =
 pub parameter-rule-spec : {M : Type 1} → statement M
 parameter-rule-spec =
     tie.close
-    (tie.spec
-    to-requires
-    returns
-    to-requires-2
-    returns-2
-    to-requires-3
-    returns-3
-    to-requires-4
-    below-requires
-    returns-4)
+    (tie.spec (λ c κs. search needs) returns (λ c κs. search needs) returns-2 (λ c κs. search needs) returns-3 (λ c κs. search needs)
+    (λ c κs. search needs) returns-4)

@@ -5,32 +5,17 @@ use Rattle.parser.specs.Parser.{transition}
 use Rattle.parser.proofs.rules.transition.Statement.{statement}
 use Rattle.parser.proofs.rules.transition.Tie as tie
 
-to-requires : tie.Need-to-requires
-to-requires c κs = search needs
-
 returns : tie.Need-returns
 unfolding transition
 returns c = rw (eq-eqb _ _ (c .before .if1 .taken)) (c .to .ensures)
-
-to-requires-2 : tie.Need-to-requires-2
-to-requires-2 c κs = search needs
 
 returns-2 : tie.Need-returns-2
 unfolding transition
 returns-2 c = rw (ne-eqb _ _ (c .before .before .if1 .left), eq-eqb _ _ (c .before .if2 .taken)) (c .to2 .ensures)
 
-to-requires-3 : tie.Need-to-requires-3
-to-requires-3 c κs = search needs
-
 returns-3 : tie.Need-returns-3
 unfolding transition
 returns-3 c = rw (ne-eqb _ _ (c .before .before .before .if1 .left), ne-eqb _ _ (c .before .before .if2 .left), eq-eqb _ _ (c .before .if3 .taken)) (c .to3 .ensures)
-
-between-requires : tie.Need-between-requires
-between-requires c κs = search needs
-
-c1-rule-requires : tie.Need-c1-rule-requires
-c1-rule-requires c κs = search needs
 
 returns-4 : tie.Need-returns-4
 unfolding transition
@@ -38,9 +23,6 @@ returns-4 c =
     let b = c .before .before in
     rw (ne-eqb _ _ (b .before .before .before .if1 .left), ne-eqb _ _ (b .before .before .if2 .left), ne-eqb _ _ (b .before .if3 .left), ← b .between .ensures, c .before .if4 .taken)
     (c .c1-rule .ensures)
-
-phase-rule-requires : tie.Need-phase-rule-requires
-phase-rule-requires c κs = search needs
 
 returns-5 : tie.Need-returns-5
 unfolding transition
@@ -52,15 +34,5 @@ returns-5 c =
 pub transition-spec : {M : Type 1} → statement M
 transition-spec =
     tie.close
-    (tie.spec
-    to-requires
-    returns
-    to-requires-2
-    returns-2
-    to-requires-3
-    returns-3
-    between-requires
-    c1-rule-requires
-    returns-4
-    phase-rule-requires
-    returns-5)
+    (tie.spec (λ c κs. search needs) returns (λ c κs. search needs) returns-2 (λ c κs. search needs) returns-3 (λ c κs. search needs)
+    (λ c κs. search needs) returns-4 (λ c κs. search needs) returns-5)

@@ -1,5 +1,5 @@
 -- Refused for a state that is not whole; else the count of ones is the set's size.
-use mathlib.Core.Path.{_≡_, sym, _∙_}
+use mathlib.Core.Path.{sym, _∙_}
 use borrow.Author.Tests.{not-true, not-false}
 use Rattle.terminal.specs.Ask.{asked}
 use Rattle.terminal.proofs.CallLaws.{state-facts}
@@ -7,15 +7,9 @@ use borrow.Author.Needs.{needs}
 use Rattle.terminal.proofs.calls.ask.Statement.{statement}
 use Rattle.terminal.proofs.calls.ask.Tie as tie
 
-is-whole-requires : tie.Need-is-whole-requires
-is-whole-requires c κs = search needs
-
 returns : tie.Need-returns
 unfolding asked
 returns c = rw (sym (c .before .is-whole .ensures) ∙ not-true _ (c .if1 .taken))
-
-count-rows-requires : tie.Need-count-rows-requires
-count-rows-requires c κs = search needs
 
 returns-2 : tie.Need-returns-2
 unfolding asked
@@ -26,4 +20,4 @@ returns-2 c =
     rw (e, c .count-rows .ensures (s .core .rows) (state-facts s e .changed))
 
 pub ask-spec : {M : Type 1} → statement M
-ask-spec = tie.close (tie.spec is-whole-requires returns count-rows-requires returns-2)
+ask-spec = tie.close (tie.spec (λ c κs. search needs) returns (λ c κs. search needs) returns-2)

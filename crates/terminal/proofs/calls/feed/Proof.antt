@@ -1,24 +1,15 @@
 -- Each return is the definition's case, by the tests that led there.
-use mathlib.Core.Path.{_≡_, sym, _∙_}
+use mathlib.Core.Path.{sym, _∙_}
 use borrow.Author.Tests.{not-true, not-false}
 use Rattle.terminal.proofs.CallLaws.{state-facts, fed-broken, fed-size, fed-run}
 use borrow.Author.Needs.{needs}
 use Rattle.terminal.proofs.calls.feed.Statement.{statement}
 use Rattle.terminal.proofs.calls.feed.Tie as tie
 
-is-whole-requires : tie.Need-is-whole-requires
-is-whole-requires c κs = search needs
-
 returns : tie.Need-returns
 returns c =
     let a = c .before .before .before .before .before .args in
     rw (fed-broken (a .state) (a .page .now) (a .input .now) (a .reply .now) (sym (c .before .is-whole .ensures) ∙ not-true _ (c .if1 .taken)))
-
-cast-if2 : tie.Need-cast-if2
-cast-if2 c = search needs
-
-mul-if2 : tie.Need-mul-if2
-mul-if2 c = search needs
 
 returns-2 : tie.Need-returns-2
 returns-2 c =
@@ -34,12 +25,6 @@ run-requires c κs =
     let f = state-facts (a .state) (sym (w .is-whole .ensures) ∙ not-false _ (e2 .before .before .if1 .left)) in
     record { whole = f .core; few = f .changed; size = e2 .if2 .left }
 
-same-length : tie.Need-same-length
-same-length c = search needs
-
-same-length-2 : tie.Need-same-length-2
-same-length-2 c = search needs
-
 returns-3 : tie.Need-returns-3
 returns-3 c =
     let r = c .before .before .before .before in
@@ -52,13 +37,5 @@ returns-3 c =
 pub feed-spec : {M : Type 1} → statement M
 feed-spec =
     tie.close
-    (tie.spec
-    is-whole-requires
-    returns
-    cast-if2
-    mul-if2
-    returns-2
-    run-requires
-    same-length
-    same-length-2
+    (tie.spec (λ c κs. search needs) returns (λ c. search needs) (λ c. search needs) returns-2 run-requires (λ c. search needs) (λ c. search needs)
     returns-3)

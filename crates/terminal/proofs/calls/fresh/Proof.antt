@@ -5,11 +5,8 @@ use borrow.Author.Needs.{needs}
 use Rattle.terminal.proofs.calls.fresh.Statement.{statement}
 use Rattle.terminal.proofs.calls.fresh.Tie as tie
 
-fresh-core-requires : tie.Need-fresh-core-requires
-fresh-core-requires c κs = search needs
-
 returns : tie.Need-returns
 returns c = ap (λ (x : Core). record { core = x; changed = 0 }) (c .fresh-core .ensures)
 
 pub fresh-spec : {M : Type 1} → statement M
-fresh-spec = tie.close (tie.spec fresh-core-requires returns)
+fresh-spec = tie.close (tie.spec (λ c κs. search needs) returns)

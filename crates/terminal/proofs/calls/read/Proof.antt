@@ -1,5 +1,5 @@
 -- Each return is the definition's case, by the tests that led there; on the page, the cell's place is inside the slice.
-use mathlib.Core.Path.{_≡_, sym, _∙_}
+use mathlib.Core.Path.{sym, _∙_}
 use native.Mathlib.Omega.{arith}
 use borrow.Author.Tests.{eq-eqb, ne-eqb, not-true, not-false}
 use Rattle.terminal.specs.Read.{cellRead}
@@ -8,18 +8,9 @@ use borrow.Author.Needs.{needs}
 use Rattle.terminal.proofs.calls.read.Statement.{statement}
 use Rattle.terminal.proofs.calls.read.Tie as tie
 
-is-whole-requires : tie.Need-is-whole-requires
-is-whole-requires c κs = search needs
-
 returns : tie.Need-returns
 unfolding cellRead
 returns c = rw (sym (c .before .is-whole .ensures) ∙ not-true _ (c .if1 .taken))
-
-cast-rows : tie.Need-cast-rows
-cast-rows c = search needs
-
-mul-if2 : tie.Need-mul-if2
-mul-if2 c = search needs
 
 returns-2 : tie.Need-returns-2
 unfolding cellRead
@@ -80,17 +71,5 @@ returns-4 c =
 pub read-spec : {M : Type 1} → statement M
 read-spec =
     tie.close
-    (tie.spec
-    is-whole-requires
-    returns
-    cast-rows
-    mul-if2
-    returns-2
-    sub-at
-    mul-at
-    sub-at-2
-    add-at
-    mul-t20
-    shared-slice-read-t25
-    returns-3
-    returns-4)
+    (tie.spec (λ c κs. search needs) returns (λ c. search needs) (λ c. search needs) returns-2 sub-at mul-at sub-at-2 add-at mul-t20
+    shared-slice-read-t25 returns-3 returns-4)

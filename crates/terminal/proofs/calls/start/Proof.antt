@@ -1,5 +1,5 @@
 -- Each return is the definition's case, by the tests that led there.
-use mathlib.Core.Path.{_≡_, ap, _∙_}
+use mathlib.Core.Path.{ap, _∙_}
 use Prim.Native.Nat.{ℕ}
 use native.Mathlib.Omega.{arith}
 use lib.ListN.{replicate}
@@ -13,9 +13,6 @@ use borrow.Author.Needs.{needs}
 use Rattle.terminal.proofs.calls.start.Statement.{statement}
 use Rattle.terminal.proofs.calls.start.Tie as tie
 
-fresh-requires : tie.Need-fresh-requires
-fresh-requires c κs = search needs
-
 returns : tie.Need-returns
 unfolding started
 returns c = rw (not-true (sized (c .before .before .before .args .rows)) (c .before .if1 .taken), c .fresh .ensures)
@@ -25,16 +22,10 @@ mul-if2 c =
     let few = row-count (c .before .before .args .rows) (not-false (sized (c .before .before .args .rows)) (c .if1 .left)) in
     record { fits = omega (arith, few .high) }
 
-fresh-requires-2 : tie.Need-fresh-requires-2
-fresh-requires-2 c κs = search needs
-
 returns-2 : tie.Need-returns-2
 unfolding started
 returns-2 c =
     rw (not-false (sized (c .before .before .before .before .args .rows)) (c .before .before .if1 .left), ne-eqb _ _ (c .before .if2 .taken), c .fresh2 .ensures)
-
-clear-requires : tie.Need-clear-requires
-clear-requires c κs = search needs
 
 cast-fresh : tie.Need-cast-fresh
 cast-fresh c =
@@ -42,12 +33,6 @@ cast-fresh c =
     let rows = e2 .before .before .before .args .rows in
     let few = row-count rows (not-false (sized rows) (e2 .before .if1 .left)) in
     omega (arith, few .high)
-
-fresh-requires-3 : tie.Need-fresh-requires-3
-fresh-requires-3 c κs = search needs
-
-same-length : tie.Need-same-length
-same-length c = search needs
 
 returns-3 : tie.Need-returns-3
 unfolding started
@@ -60,14 +45,5 @@ returns-3 c =
 pub start-spec : {M : Type 1} → statement M
 start-spec =
     tie.close
-    (tie.spec
-    fresh-requires
-    returns
-    mul-if2
-    fresh-requires-2
-    returns-2
-    clear-requires
-    cast-fresh
-    fresh-requires-3
-    same-length
-    returns-3)
+    (tie.spec (λ c κs. search needs) returns mul-if2 (λ c κs. search needs) returns-2 (λ c κs. search needs) cast-fresh (λ c κs. search needs)
+    (λ c. search needs) returns-3)

@@ -3,14 +3,8 @@ use borrow.Author.Needs.{needs}
 use Rattle.terminal.proofs.line.is_character.Statement.{statement}
 use Rattle.terminal.proofs.line.is_character.Tie as tie
 
-between-requires : tie.Need-between-requires
-between-requires c κs = search needs
-
-between-requires-2 : tie.Need-between-requires-2
-between-requires-2 c κs = search needs
-
 returns : tie.Need-returns
 returns c = rw (c .before .between .ensures, c .between2 .ensures)
 
 pub is-character-spec : {M : Type 1} → statement M
-is-character-spec = tie.close (tie.spec between-requires between-requires-2 returns)
+is-character-spec = tie.close (tie.spec (λ c κs. search needs) (λ c κs. search needs) returns)

@@ -4,14 +4,8 @@ use Rattle.terminal.proofs.LineLaws.{not-ground}
 use Rattle.terminal.proofs.line.is_ground.Statement.{statement}
 use Rattle.terminal.proofs.line.is_ground.Tie as tie
 
-enum-told : tie.Need-enum-told
-enum-told c = search needs
-
-returns : tie.Need-returns
-returns c = search needs
-
 returns-2 : tie.Need-returns-2
 returns-2 c = not-ground (c .before .args .phase) (c .match .keys2)
 
 pub is-ground-spec : {M : Type 1} → statement M
-is-ground-spec = tie.close (tie.spec enum-told returns returns-2)
+is-ground-spec = tie.close (tie.spec (λ c. search needs) (λ c. search needs) returns-2)

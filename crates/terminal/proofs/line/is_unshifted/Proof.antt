@@ -4,14 +4,8 @@ use Rattle.terminal.proofs.LineLaws.{shifted}
 use Rattle.terminal.proofs.line.is_unshifted.Statement.{statement}
 use Rattle.terminal.proofs.line.is_unshifted.Tie as tie
 
-enum-told : tie.Need-enum-told
-enum-told c = search needs
-
-returns : tie.Need-returns
-returns c = search needs
-
 returns-2 : tie.Need-returns-2
 returns-2 c = shifted (c .before .args .shift) (c .match .keys2)
 
 pub is-unshifted-spec : {M : Type 1} → statement M
-is-unshifted-spec = tie.close (tie.spec enum-told returns returns-2)
+is-unshifted-spec = tie.close (tie.spec (λ c. search needs) (λ c. search needs) returns-2)

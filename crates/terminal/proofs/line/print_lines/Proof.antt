@@ -37,36 +37,15 @@ loop-holds c =
     let start = c .before .before .before .before .before in
     spanned-none _ _ _ _ (start .pre .0) (start .pre .1)
 
-shared-slice-read-byte : tie.Need-shared-slice-read-byte Inv-loop μ-loop
-shared-slice-read-byte c = search needs
-
-is-character-requires : tie.Need-is-character-requires Inv-loop μ-loop
-is-character-requires c κs = search needs
-
-glyph-requires : tie.Need-glyph-requires Inv-loop μ-loop
-glyph-requires c κs = search needs
-
-sub-put : tie.Need-sub-put Inv-loop μ-loop
-sub-put c = search needs
-
-sub-put-2 : tie.Need-sub-put-2 Inv-loop μ-loop
-sub-put-2 c = search needs
-
 put-requires : tie.Need-put-requires Inv-loop μ-loop
 put-requires c κs =
     let l = c .before .before .before .before .before .before .before .before .before in
     put-block _ _ (l .loop .inv .ready)
 
-advance-requires : tie.Need-advance-requires Inv-loop μ-loop
-advance-requires c κs = search needs
-
 add-i : tie.Need-add-i Inv-loop μ-loop
 add-i c =
     let t = c .before .before .before .before .before .before .before .before .before .before .before .before in
     omega (arith, t .loop-test .taken, t .before .before .before .before .before .before .before .good .1 .1 .1 .0)
-
-loop-less : tie.Need-loop-less Inv-loop μ-loop
-loop-less c = search needs
 
 loop-again : tie.Need-loop-again Inv-loop μ-loop
 loop-again c =
@@ -90,15 +69,6 @@ loop-again c =
     ∙ one-step now (l .loop .page) (put .put .last .0) b (put .put .result) _ _ (R .ready) (put-decides (now .core) b (start .pre .2) char wrap) (put .put .kept .0) A)
     (put .put .kept .0)
 
-to-column-requires : tie.Need-to-column-requires Inv-loop μ-loop
-to-column-requires c κs = search needs
-
-add-i-2 : tie.Need-add-i-2 Inv-loop μ-loop
-add-i-2 c = search needs
-
-loop-less-2 : tie.Need-loop-less-2 Inv-loop μ-loop
-loop-less-2 c = search needs
-
 loop-again-2 : tie.Need-loop-again-2 Inv-loop μ-loop
 loop-again-2 c =
     let yes = c .before in
@@ -116,15 +86,6 @@ loop-again-2 c =
     (ap (λ (u : Cursor). screen (after u) (l .loop .page)) (c .to-column .ensures)
     ∙ move-step now (l .loop .page) b _ (R .ready) (return-decides (now .core) (start .pre .2) ∙ ap (decided (now .core)) (sym cr)))
     refl
-
-between-requires : tie.Need-between-requires Inv-loop μ-loop
-between-requires c κs = search needs
-
-line-start-requires : tie.Need-line-start-requires Inv-loop μ-loop
-line-start-requires c κs = search needs
-
-index-edit-requires : tie.Need-index-edit-requires Inv-loop μ-loop
-index-edit-requires c κs = search needs
 
 apply-requires : tie.Need-apply-requires Inv-loop μ-loop
 apply-requires c κs =
@@ -156,9 +117,6 @@ add-i-3 c =
     let t = c .before .before .before .before .before .before .before .before .before .before .before .before .before .before in
     omega (arith, t .loop-test .taken, t .before .before .before .before .before .before .before .good .1 .1 .1 .0)
 
-loop-less-3 : tie.Need-loop-less-3 Inv-loop μ-loop
-loop-less-3 c = search needs
-
 loop-again-3 : tie.Need-loop-again-3 Inv-loop μ-loop
 loop-again-3 c =
     let a = c .before .before .before in
@@ -183,20 +141,8 @@ loop-again-3 c =
     ∙ one-step now (l .loop .page) (a .apply .last .1 .0) b (a .apply .result) _ _ (R .ready) (line-decides (now .core) b (start .pre .2) line) (a .apply .kept .1 .0) A)
     (a .apply .kept .1 .0)
 
-stopped-requires : tie.Need-stopped-requires Inv-loop μ-loop
-stopped-requires c κs = search needs
-
-same-length : tie.Need-same-length Inv-loop μ-loop
-same-length c = search needs
-
 returns : tie.Need-returns Inv-loop μ-loop
 returns c = rw (c .stopped .ensures) (c .before .before .before .before .before .before .before .before .before .loop .inv)
-
-stopped-requires-2 : tie.Need-stopped-requires-2 Inv-loop μ-loop
-stopped-requires-2 c κs = search needs
-
-same-length-2 : tie.Need-same-length-2 Inv-loop μ-loop
-same-length-2 c = search needs
 
 returns-2 : tie.Need-returns-2 Inv-loop μ-loop
 returns-2 c = rw (c .stopped2 .ensures) (c .before .before .loop .inv)
@@ -204,35 +150,7 @@ returns-2 c = rw (c .stopped2 .ensures) (c .before .before .loop .inv)
 pub print-lines-spec : {M : Type 1} → statement M
 print-lines-spec =
     tie.close
-    (tie.spec
-    Inv-loop
-    μ-loop
-    loop-holds
-    shared-slice-read-byte
-    is-character-requires
-    glyph-requires
-    sub-put
-    sub-put-2
-    put-requires
-    advance-requires
-    add-i
-    loop-less
-    loop-again
-    to-column-requires
-    add-i-2
-    loop-less-2
-    loop-again-2
-    between-requires
-    line-start-requires
-    index-edit-requires
-    apply-requires
-    index-requires
-    add-i-3
-    loop-less-3
-    loop-again-3
-    stopped-requires
-    same-length
-    returns
-    stopped-requires-2
-    same-length-2
-    returns-2)
+    (tie.spec Inv-loop μ-loop loop-holds (λ c. search needs) (λ c κs. search needs) (λ c κs. search needs) (λ c. search needs) (λ c. search needs)
+    put-requires (λ c κs. search needs) add-i (λ c. search needs) loop-again (λ c κs. search needs) (λ c. search needs) (λ c. search needs)
+    loop-again-2 (λ c κs. search needs) (λ c κs. search needs) (λ c κs. search needs) apply-requires index-requires add-i-3 (λ c. search needs)
+    loop-again-3 (λ c κs. search needs) (λ c. search needs) returns (λ c κs. search needs) (λ c. search needs) returns-2)

@@ -5,24 +5,12 @@ use Rattle.terminal.proofs.SpanLaws.{spanned-none}
 use Rattle.terminal.proofs.line.print_run.Statement.{statement}
 use Rattle.terminal.proofs.line.print_run.Tie as tie
 
-prints-plainly-requires : tie.Need-prints-plainly-requires
-prints-plainly-requires c κs = search needs
-
 print-lines-requires : tie.Need-print-lines-requires
 print-lines-requires c κs =
     let yes = c .before in
     let test = yes .before in
     let start = test .before .before .before in
     (start .pre .0, start .pre .1, sym (test .prints-plainly .ensures) ∙ yes .if1 .taken)
-
-same-length : tie.Need-same-length
-same-length c = search needs
-
-returns : tie.Need-returns
-returns c = search needs
-
-stopped-requires : tie.Need-stopped-requires
-stopped-requires c κs = search needs
 
 returns-2 : tie.Need-returns-2
 returns-2 c =
@@ -31,4 +19,5 @@ returns-2 c =
 
 pub print-run-spec : {M : Type 1} → statement M
 print-run-spec =
-    tie.close (tie.spec prints-plainly-requires print-lines-requires same-length returns stopped-requires returns-2)
+    tie.close
+    (tie.spec (λ c κs. search needs) print-lines-requires (λ c. search needs) (λ c. search needs) (λ c κs. search needs) returns-2)

@@ -39,12 +39,6 @@ idle-run-requires c κs =
     let pr = c .before .before .before .before in
     pr .print-run .ensures .end
 
-shared-slice-read-byte : tie.Need-shared-slice-read-byte Inv-loop μ-loop
-shared-slice-read-byte c = search needs
-
-decode-requires : tie.Need-decode-requires Inv-loop μ-loop
-decode-requires c κs = search needs
-
 reply-to-requires : tie.Need-reply-to-requires Inv-loop μ-loop
 reply-to-requires c κs =
     let id = c .before .before .before .before in
@@ -59,12 +53,6 @@ sub-if2 c =
     let room = l .loop .inv .room in
     let long = l .loop .inv .sending .long in
     omega arith
-
-reply-len-requires : tie.Need-reply-len-requires Inv-loop μ-loop
-reply-len-requires c κs = search needs
-
-ended-requires : tie.Need-ended-requires Inv-loop μ-loop
-ended-requires c κs = search needs
 
 same-length : tie.Need-same-length Inv-loop μ-loop
 same-length c =
@@ -167,44 +155,12 @@ loop-again-2 c =
     let l = pr .before .before .before in
     running-runs (l .loop .inv) (pr .print-run .result) (pr .print-run .last .1 .1 .0) (pr .print-run .ensures) (id .idle-run .result) (id .idle-run .ensures)
 
-ended-requires-2 : tie.Need-ended-requires-2 Inv-loop μ-loop
-ended-requires-2 c κs = search needs
-
-same-length-3 : tie.Need-same-length-3 Inv-loop μ-loop
-same-length-3 c = search needs
-
-same-length-4 : tie.Need-same-length-4 Inv-loop μ-loop
-same-length-4 c = search needs
-
 returns-2 : tie.Need-returns-2 Inv-loop μ-loop
 returns-2 c = rw (c .ended2 .ensures) (running-done (c .before .before .loop .inv) (c .before .loop-test .left))
 
 pub run-spec : {M : Type 1} → statement M
 run-spec =
     tie.close
-    (tie.spec
-    Inv-loop
-    μ-loop
-    loop-holds
-    print-run-requires
-    idle-run-requires
-    shared-slice-read-byte
-    decode-requires
-    reply-to-requires
-    sub-if2
-    reply-len-requires
-    ended-requires
-    same-length
-    same-length-2
-    returns
-    send-requires
-    step-requires
-    add-i
-    loop-less
-    loop-again
-    loop-less-2
-    loop-again-2
-    ended-requires-2
-    same-length-3
-    same-length-4
-    returns-2)
+    (tie.spec Inv-loop μ-loop loop-holds print-run-requires idle-run-requires (λ c. search needs) (λ c κs. search needs) reply-to-requires sub-if2
+    (λ c κs. search needs) (λ c κs. search needs) same-length same-length-2 returns send-requires step-requires add-i loop-less loop-again loop-less-2
+    loop-again-2 (λ c κs. search needs) (λ c. search needs) (λ c. search needs) returns-2)

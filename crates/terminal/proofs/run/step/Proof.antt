@@ -19,9 +19,6 @@ decides : (c : Core) (b : ℕ) (d : Decoded) (x : Decision) → d ≡ decode (c 
 unfolding decided
 decides c b d x ed ex = ex ∙ ap (λ (y : Decoded). executed (withParser c (y .parser)) (y .action)) ed
 
-execute-requires : tie.Need-execute-requires
-execute-requires c κs = search needs
-
 apply-requires : tie.Need-apply-requires
 apply-requires c κs =
     let d = c .before .before in
@@ -37,9 +34,6 @@ apply-requires-2 c κs =
     let snd = decided-sound (start .args .core) (start .args .byte) (start .pre .0 .whole) in
     record { long = a .apply .kept .1 .0 ∙ start .pre .0 .size; few = omega (arith, start .pre .0 .whole .rows-high); within = rw (decides (start .args .core) (start .args .byte) (start .args .decoded) (d .execute .result) (start .pre .1) (d .execute .ensures)) (snd .second) }
 
-same-length : tie.Need-same-length
-same-length c = search needs
-
 returns : tie.Need-returns
 returns c =
     let b = c .before .before in
@@ -50,5 +44,4 @@ returns c =
     (start .pre .0) (decides (start .args .core) (start .args .byte) (start .args .decoded) (d .execute .result) (start .pre .1) (d .execute .ensures)) (a .apply .ensures .page) (a .apply .ensures .marked) (b .apply2 .ensures .page) (b .apply2 .ensures .marked)
 
 pub step-spec : {M : Type 1} → statement M
-step-spec =
-    tie.close (tie.spec execute-requires apply-requires apply-requires-2 same-length returns)
+step-spec = tie.close (tie.spec (λ c κs. search needs) apply-requires apply-requires-2 (λ c. search needs) returns)

@@ -1,5 +1,5 @@
 -- The core's test is vt's; a set below 2 ^ R has no row above R.
-use mathlib.Core.Path.{_≡_, sym, _∙_}
+use mathlib.Core.Path.{sym, _∙_}
 use native.Mathlib.Nat.{one-mul}
 use native.Mathlib.Omega.{arith}
 use lib.Dec.{lit<}
@@ -9,12 +9,6 @@ use Rattle.terminal.specs.Whole.{wholeState}
 use borrow.Author.Needs.{needs}
 use Rattle.terminal.proofs.whole.is_whole.Statement.{statement}
 use Rattle.terminal.proofs.whole.is_whole.Tie as tie
-
-is-whole-requires : tie.Need-is-whole-requires
-is-whole-requires c κs = search needs
-
-cast-result : tie.Need-cast-result
-cast-result c = search needs
 
 shl-result : tie.Need-shl-result
 shl-result c =
@@ -34,4 +28,4 @@ unfolding wholeState
 returns-2 c = rw (sym (c .before .is-whole .ensures) ∙ c .if1 .left)
 
 pub is-whole-spec : {M : Type 1} → statement M
-is-whole-spec = tie.close (tie.spec is-whole-requires cast-result shl-result returns returns-2)
+is-whole-spec = tie.close (tie.spec (λ c κs. search needs) (λ c. search needs) shl-result returns returns-2)

@@ -11,9 +11,6 @@ use Rattle.text.proofs.TextLaws.{line-length, line-short}
 use Rattle.text.proofs.lines.line_len.Statement.{statement}
 use Rattle.text.proofs.lines.line_len.Tie as tie
 
-trimmed-len-requires : tie.Need-trimmed-len-requires
-trimmed-len-requires c κs = search needs
-
 -- what `signs_len` returns
 bytes : (c : tie.After-signs-len) → c .signs-len .result ≡ length (encoded (trimmed (map sign (c .before .before .before .before .args .row .now))))
 bytes c =
@@ -22,9 +19,6 @@ bytes c =
 
 slice-aggregate-signs-len : tie.Need-slice-aggregate-signs-len
 slice-aggregate-signs-len c = left-count (c .before .before .before .args .row .now) (c .before .trimmed-len .result) (c .before .trimmed-len .ensures)
-
-signs-len-requires : tie.Need-signs-len-requires
-signs-len-requires c κs = search needs
 
 add-result : tie.Need-add-result
 add-result c =
@@ -35,6 +29,4 @@ returns : tie.Need-returns
 returns c = omega (arith, bytes c, line-length (c .before .before .before .before .args .row .now))
 
 pub line-len-spec : {M : Type 1} → statement M
-line-len-spec =
-    tie.close
-    (tie.spec trimmed-len-requires slice-aggregate-signs-len signs-len-requires add-result returns)
+line-len-spec = tie.close (tie.spec (λ c κs. search needs) slice-aggregate-signs-len (λ c κs. search needs) add-result returns)

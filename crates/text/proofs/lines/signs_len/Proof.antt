@@ -21,28 +21,10 @@ loop-holds : tie.Need-loop-holds Inv-loop μ-loop
 unfolding encoded
 loop-holds c = (omega arith, refl)
 
-mul-sign : tie.Need-mul-sign Inv-loop μ-loop
-mul-sign c = search needs
-
-shared-slice-read-sign : tie.Need-shared-slice-read-sign Inv-loop μ-loop
-shared-slice-read-sign c = search needs
-
-sign-requires : tie.Need-sign-requires Inv-loop μ-loop
-sign-requires c κs = search needs
-
-utf8-len-requires : tie.Need-utf8-len-requires Inv-loop μ-loop
-utf8-len-requires c κs = search needs
-
 add-len : tie.Need-add-len Inv-loop μ-loop
 add-len c =
     let head = c .before .before .before .before in
     omega (arith, signs-short (head .before .before .args .cells .now) (head .loop .i), utf8-short (c .before .sign .result))
-
-add-i : tie.Need-add-i Inv-loop μ-loop
-add-i c = search needs
-
-loop-less : tie.Need-loop-less Inv-loop μ-loop
-loop-less c = search needs
 
 loop-again : tie.Need-loop-again Inv-loop μ-loop
 loop-again c =
@@ -59,16 +41,5 @@ returns c =
 pub signs-len-spec : {M : Type 1} → statement M
 signs-len-spec =
     tie.close
-    (tie.spec
-    Inv-loop
-    μ-loop
-    loop-holds
-    mul-sign
-    shared-slice-read-sign
-    sign-requires
-    utf8-len-requires
-    add-len
-    add-i
-    loop-less
-    loop-again
-    returns)
+    (tie.spec Inv-loop μ-loop loop-holds (λ c. search needs) (λ c. search needs) (λ c κs. search needs) (λ c κs. search needs) add-len
+    (λ c. search needs) (λ c. search needs) loop-again returns)

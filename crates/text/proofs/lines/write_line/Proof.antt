@@ -13,9 +13,6 @@ use Rattle.text.proofs.TextLaws.{line-length}
 use Rattle.text.proofs.lines.write_line.Statement.{statement}
 use Rattle.text.proofs.lines.write_line.Tie as tie
 
-trimmed-len-requires : tie.Need-trimmed-len-requires
-trimmed-len-requires c κs = search needs
-
 slice-aggregate-write-signs : tie.Need-slice-aggregate-write-signs
 slice-aggregate-write-signs c = left-count (c .before .before .before .before .args .row .now) (c .before .trimmed-len .result) (c .before .trimmed-len .ensures)
 
@@ -40,9 +37,6 @@ write-byte-requires c κs =
     let row = trim .before .before .before .args .row .now in
     omega (arith, trim .before .before .before .pre, signs-written signs, line-length row)
 
-same-length : tie.Need-same-length
-same-length c = search needs
-
 returns : tie.Need-returns
 returns c =
     let byte = c .before .before in
@@ -51,10 +45,4 @@ returns c =
 pub write-line-spec : {M : Type 1} → statement M
 write-line-spec =
     tie.close
-    (tie.spec
-    trimmed-len-requires
-    slice-aggregate-write-signs
-    write-signs-requires
-    write-byte-requires
-    same-length
-    returns)
+    (tie.spec (λ c κs. search needs) slice-aggregate-write-signs write-signs-requires write-byte-requires (λ c. search needs) returns)

@@ -23,27 +23,12 @@ loop-holds : tie.Need-loop-holds Inv-loop μ-loop
 unfolding encoded
 loop-holds c = (omega arith, wrote-none _ _)
 
-mul-sign : tie.Need-mul-sign Inv-loop μ-loop
-mul-sign c = search needs
-
-shared-slice-read-sign : tie.Need-shared-slice-read-sign Inv-loop μ-loop
-shared-slice-read-sign c = search needs
-
-sign-requires : tie.Need-sign-requires Inv-loop μ-loop
-sign-requires c κs = search needs
-
 write-utf8-requires : tie.Need-write-utf8-requires Inv-loop μ-loop
 write-utf8-requires c κs =
     let head = c .before .before .before .before in
     let cells = head .before .before .before .args .cells .now in
     let bytes = ap (λ (x : ℕ). length (utf8 x)) (c .sign .ensures) in
     omega (arith, encoded-more-length cells (head .loop .i) (omega arith), encoded-part (head .loop .i + 1) cells)
-
-add-i : tie.Need-add-i Inv-loop μ-loop
-add-i c = search needs
-
-loop-less : tie.Need-loop-less Inv-loop μ-loop
-loop-less c = search needs
 
 loop-again : tie.Need-loop-again Inv-loop μ-loop
 loop-again c =
@@ -54,9 +39,6 @@ loop-again c =
       rw (encoded-more cells (head .loop .i) (omega arith), ← called .before .sign .ensures) (wrote-more (head .loop .inv .1) (called .write-utf8 .ensures)),
     )
 
-same-length : tie.Need-same-length Inv-loop μ-loop
-same-length c = search needs
-
 returns : tie.Need-returns Inv-loop μ-loop
 returns c =
     let head = c .before in
@@ -65,16 +47,5 @@ returns c =
 pub write-signs-spec : {M : Type 1} → statement M
 write-signs-spec =
     tie.close
-    (tie.spec
-    Inv-loop
-    μ-loop
-    loop-holds
-    mul-sign
-    shared-slice-read-sign
-    sign-requires
-    write-utf8-requires
-    add-i
-    loop-less
-    loop-again
-    same-length
-    returns)
+    (tie.spec Inv-loop μ-loop loop-holds (λ c. search needs) (λ c. search needs) (λ c κs. search needs) write-utf8-requires (λ c. search needs)
+    (λ c. search needs) loop-again (λ c. search needs) returns)

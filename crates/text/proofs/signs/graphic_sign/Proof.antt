@@ -6,15 +6,6 @@ use borrow.Author.Tests.{lt-ltb, le-ltb, eq-eqb, ne-eqb}
 use Rattle.text.proofs.signs.graphic_sign.Statement.{statement}
 use Rattle.text.proofs.signs.graphic_sign.Tie as tie
 
-cast-line-drawing-sign : tie.Need-cast-line-drawing-sign
-cast-line-drawing-sign c = search needs
-
-line-drawing-sign-requires : tie.Need-line-drawing-sign-requires
-line-drawing-sign-requires c κs = search needs
-
-plain-sign-requires : tie.Need-plain-sign-requires
-plain-sign-requires c κs = search needs
-
 returns : tie.Need-returns
 returns c =
     let code = c .before .before .before .args .code in
@@ -24,18 +15,11 @@ returns-2 : tie.Need-returns-2
 returns-2 c =
     let code = c .before .before .args .code in
     ⊎-elim
-    (λ w. rw (lt-ltb code 0x5F (w .taken)) (c .plain-sign .ensures))
+    (λ w. rw (lt-ltb code 0x5F (w .taken)) (c .shown-code .ensures))
     (λ w.
     let last = eq-eqb code 0x7F (omega (arith, w .1 .left)) in
-    rw (le-ltb code 0x5F (w .0 .left), last) (rw last at (c .plain-sign .ensures)))
+    rw (le-ltb code 0x5F (w .0 .left), last) (rw last at (c .shown-code .ensures)))
     (c .before .if1 .came)
 
 pub graphic-sign-spec : {M : Type 1} → statement M
-graphic-sign-spec =
-    tie.close
-    (tie.spec
-    cast-line-drawing-sign
-    line-drawing-sign-requires
-    plain-sign-requires
-    returns
-    returns-2)
+graphic-sign-spec = tie.close (tie.spec (λ c. search needs) (λ c κs. search needs) (λ c κs. search needs) returns returns-2)

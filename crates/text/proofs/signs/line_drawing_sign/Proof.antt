@@ -4,14 +4,8 @@ use borrow.Author.Needs.{needs}
 use Rattle.text.proofs.signs.line_drawing_sign.Statement.{statement}
 use Rattle.text.proofs.signs.line_drawing_sign.Tie as tie
 
-mul-result : tie.Need-mul-result
-mul-result c = search needs
-
-array-read-result : tie.Need-array-read-result
-array-read-result c = search needs
-
 returns : tie.Need-returns
 returns c = refl
 
 pub line-drawing-sign-spec : {M : Type 1} → statement M
-line-drawing-sign-spec = tie.close (tie.spec mul-result array-read-result returns)
+line-drawing-sign-spec = tie.close (tie.spec (λ c. search needs) (λ c. search needs) returns)

@@ -10,18 +10,9 @@ returns : tie.Need-returns
 unfolding unpacked sign
 returns c = rw (eq-eqb _ _ (c .if1 .taken))
 
-plain-sign-requires : tie.Need-plain-sign-requires
-plain-sign-requires c κs = search needs
-
-graphic-sign-requires : tie.Need-graphic-sign-requires
-graphic-sign-requires c κs = search needs
-
-add-result : tie.Need-add-result
-add-result c = search needs
-
 returns-2 : tie.Need-returns-2
 unfolding unpacked sign
-returns-2 c = rw (ne-eqb _ _ (c .before .before .if1 .left), eq-eqb _ _ (c .before .match .keys1)) (c .plain-sign .ensures)
+returns-2 c = rw (ne-eqb _ _ (c .before .before .if1 .left), eq-eqb _ _ (c .before .match .keys1)) (c .shown-code .ensures)
 
 returns-3 : tie.Need-returns-3
 unfolding unpacked sign
@@ -37,14 +28,4 @@ returns-5 c =
     rw (ne-eqb _ _ (c .before .if1 .left), ne-eqb _ _ (c .match .rest .0 .0 .1), ne-eqb _ _ (c .match .rest .0 .1), ne-eqb _ _ (c .match .rest .1))
 
 pub sign-spec : {M : Type 1} → statement M
-sign-spec =
-    tie.close
-    (tie.spec
-    returns
-    plain-sign-requires
-    graphic-sign-requires
-    add-result
-    returns-2
-    returns-3
-    returns-4
-    returns-5)
+sign-spec = tie.close (tie.spec returns (λ c κs. search needs) (λ c κs. search needs) (λ c. search needs) returns-2 returns-3 returns-4 returns-5)

@@ -7,27 +7,6 @@ use Rattle.parser.proofs.Choice.{take-no}
 use Rattle.vt.proofs.controls.c1_control.Statement.{statement}
 use Rattle.vt.proofs.controls.c1_control.Tie as tie
 
-index-requires : tie.Need-index-requires
-index-requires c κs = search needs
-
-next-line-requires : tie.Need-next-line-requires
-next-line-requires c κs = search needs
-
-set-tab-requires : tie.Need-set-tab-requires
-set-tab-requires c κs = search needs
-
-reverse-index-requires : tie.Need-reverse-index-requires
-reverse-index-requires c κs = search needs
-
-single-shift-requires : tie.Need-single-shift-requires
-single-shift-requires c κs = search needs
-
-single-shift-requires-2 : tie.Need-single-shift-requires-2
-single-shift-requires-2 c κs = search needs
-
-quiet-requires : tie.Need-quiet-requires
-quiet-requires c κs = search needs
-
 returns : tie.Need-returns
 unfolding c1Controlled
 returns c = c .index .ensures ∙ ap (c1Controlled (c .before .before .args .core)) (sym (c .before .match .keys1))
@@ -67,18 +46,5 @@ returns-7 c =
 pub c1-control-spec : {M : Type 1} → statement M
 c1-control-spec =
     tie.close
-    (tie.spec
-    index-requires
-    next-line-requires
-    set-tab-requires
-    reverse-index-requires
-    single-shift-requires
-    single-shift-requires-2
-    quiet-requires
-    returns
-    returns-2
-    returns-3
-    returns-4
-    returns-5
-    returns-6
-    returns-7)
+    (tie.spec (λ c κs. search needs) (λ c κs. search needs) (λ c κs. search needs) (λ c κs. search needs) (λ c κs. search needs)
+    (λ c κs. search needs) (λ c κs. search needs) returns returns-2 returns-3 returns-4 returns-5 returns-6 returns-7)

@@ -7,33 +7,6 @@ use Rattle.parser.proofs.Choice.{take-no}
 use Rattle.vt.proofs.controls.control.Statement.{statement}
 use Rattle.vt.proofs.controls.control.Tie as tie
 
-backspace-requires : tie.Need-backspace-requires
-backspace-requires c κs = search needs
-
-horizontal-tab-requires : tie.Need-horizontal-tab-requires
-horizontal-tab-requires c κs = search needs
-
-line-feed-requires : tie.Need-line-feed-requires
-line-feed-requires c κs = search needs
-
-line-feed-requires-2 : tie.Need-line-feed-requires-2
-line-feed-requires-2 c κs = search needs
-
-line-feed-requires-3 : tie.Need-line-feed-requires-3
-line-feed-requires-3 c κs = search needs
-
-carriage-return-requires : tie.Need-carriage-return-requires
-carriage-return-requires c κs = search needs
-
-into-gl-requires : tie.Need-into-gl-requires
-into-gl-requires c κs = search needs
-
-into-gl-requires-2 : tie.Need-into-gl-requires-2
-into-gl-requires-2 c κs = search needs
-
-quiet-requires : tie.Need-quiet-requires
-quiet-requires c κs = search needs
-
 returns : tie.Need-returns
 unfolding controlled
 returns c = c .backspace .ensures ∙ ap (controlled (c .before .before .args .core)) (sym (c .before .match .keys1))
@@ -83,22 +56,6 @@ returns-9 c =
 pub control-spec : {M : Type 1} → statement M
 control-spec =
     tie.close
-    (tie.spec
-    backspace-requires
-    horizontal-tab-requires
-    line-feed-requires
-    line-feed-requires-2
-    line-feed-requires-3
-    carriage-return-requires
-    into-gl-requires
-    into-gl-requires-2
-    quiet-requires
-    returns
-    returns-2
-    returns-3
-    returns-4
-    returns-5
-    returns-6
-    returns-7
-    returns-8
-    returns-9)
+    (tie.spec (λ c κs. search needs) (λ c κs. search needs) (λ c κs. search needs) (λ c κs. search needs) (λ c κs. search needs)
+    (λ c κs. search needs) (λ c κs. search needs) (λ c κs. search needs) (λ c κs. search needs) returns returns-2 returns-3 returns-4 returns-5
+    returns-6 returns-7 returns-8 returns-9)

@@ -4,17 +4,11 @@ use Rattle.parser.proofs.Choice.{take-yes, take-no}
 use Rattle.vt.proofs.controls.line_feed.Statement.{statement}
 use Rattle.vt.proofs.controls.line_feed.Tie as tie
 
-next-line-requires : tie.Need-next-line-requires
-next-line-requires c κs = search needs
-
 returns : tie.Need-returns
 returns c = take-yes _ _ (c .before .if1 .taken) (c .next-line .ensures)
-
-index-requires : tie.Need-index-requires
-index-requires c κs = search needs
 
 returns-2 : tie.Need-returns-2
 returns-2 c = take-no _ _ (c .before .if1 .left) (c .index .ensures)
 
 pub line-feed-spec : {M : Type 1} → statement M
-line-feed-spec = tie.close (tie.spec next-line-requires returns index-requires returns-2)
+line-feed-spec = tie.close (tie.spec (λ c κs. search needs) returns (λ c κs. search needs) returns-2)

@@ -5,9 +5,6 @@ use borrow.Author.Needs.{needs}
 use Rattle.vt.proofs.controls.next_line.Statement.{statement}
 use Rattle.vt.proofs.controls.next_line.Tie as tie
 
-to-column-requires : tie.Need-to-column-requires
-to-column-requires c κs = search needs
-
 index-from-requires : tie.Need-index-from-requires
 index-from-requires c κs = rw (c .to-column .ensures) (omega arith)
 
@@ -15,4 +12,4 @@ returns : tie.Need-returns
 returns c = c .index-from .ensures ∙ rw (c .before .to-column .ensures)
 
 pub next-line-spec : {M : Type 1} → statement M
-next-line-spec = tie.close (tie.spec to-column-requires index-from-requires returns)
+next-line-spec = tie.close (tie.spec (λ c κs. search needs) index-from-requires returns)

@@ -3,14 +3,8 @@ use borrow.Author.Needs.{needs}
 use Rattle.vt.proofs.controls.set_tab.Statement.{statement}
 use Rattle.vt.proofs.controls.set_tab.Tie as tie
 
-set-requires : tie.Need-set-requires
-set-requires c κs = search needs
-
-quiet-requires : tie.Need-quiet-requires
-quiet-requires c κs = search needs
-
 returns : tie.Need-returns
 returns c = rw (c .quiet .ensures, c .before .set .ensures)
 
 pub set-tab-spec : {M : Type 1} → statement M
-set-tab-spec = tie.close (tie.spec set-requires quiet-requires returns)
+set-tab-spec = tie.close (tie.spec (λ c κs. search needs) (λ c κs. search needs) returns)

@@ -8,39 +8,6 @@ use Rattle.parser.proofs.Choice.{take-no}
 use Rattle.vt.proofs.escapes.escape.Statement.{statement}
 use Rattle.vt.proofs.escapes.escape.Tie as tie
 
-plain-escape-requires : tie.Need-plain-escape-requires
-plain-escape-requires c κs = search needs
-
-space-escape-requires : tie.Need-space-escape-requires
-space-escape-requires c κs = search needs
-
-hash-escape-requires : tie.Need-hash-escape-requires
-hash-escape-requires c κs = search needs
-
-designate-94-requires : tie.Need-designate-94-requires
-designate-94-requires c κs = search needs
-
-designate-94-requires-2 : tie.Need-designate-94-requires-2
-designate-94-requires-2 c κs = search needs
-
-designate-94-requires-3 : tie.Need-designate-94-requires-3
-designate-94-requires-3 c κs = search needs
-
-designate-94-requires-4 : tie.Need-designate-94-requires-4
-designate-94-requires-4 c κs = search needs
-
-designate-96-requires : tie.Need-designate-96-requires
-designate-96-requires c κs = search needs
-
-designate-96-requires-2 : tie.Need-designate-96-requires-2
-designate-96-requires-2 c κs = search needs
-
-designate-96-requires-3 : tie.Need-designate-96-requires-3
-designate-96-requires-3 c κs = search needs
-
-quiet-requires : tie.Need-quiet-requires
-quiet-requires c κs = search needs
-
 returns : tie.Need-returns
 unfolding escaped
 returns c = c .plain-escape .ensures ∙ ap (λ (n : ℕ). escaped (c .before .before .args .core) n (c .before .before .args .second) (c .before .before .args .last)) (sym (c .before .match .keys1))
@@ -100,26 +67,6 @@ returns-11 c =
 pub escape-spec : {M : Type 1} → statement M
 escape-spec =
     tie.close
-    (tie.spec
-    plain-escape-requires
-    space-escape-requires
-    hash-escape-requires
-    designate-94-requires
-    designate-94-requires-2
-    designate-94-requires-3
-    designate-94-requires-4
-    designate-96-requires
-    designate-96-requires-2
-    designate-96-requires-3
-    quiet-requires
-    returns
-    returns-2
-    returns-3
-    returns-4
-    returns-5
-    returns-6
-    returns-7
-    returns-8
-    returns-9
-    returns-10
-    returns-11)
+    (tie.spec (λ c κs. search needs) (λ c κs. search needs) (λ c κs. search needs) (λ c κs. search needs) (λ c κs. search needs)
+    (λ c κs. search needs) (λ c κs. search needs) (λ c κs. search needs) (λ c κs. search needs) (λ c κs. search needs) (λ c κs. search needs) returns
+    returns-2 returns-3 returns-4 returns-5 returns-6 returns-7 returns-8 returns-9 returns-10 returns-11)

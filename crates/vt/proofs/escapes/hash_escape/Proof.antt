@@ -4,17 +4,11 @@ use Rattle.parser.proofs.Choice.{take-yes, take-no}
 use Rattle.vt.proofs.escapes.hash_escape.Statement.{statement}
 use Rattle.vt.proofs.escapes.hash_escape.Tie as tie
 
-align-screen-requires : tie.Need-align-screen-requires
-align-screen-requires c κs = search needs
-
 returns : tie.Need-returns
 returns c = take-yes _ _ (c .before .if1 .taken) (c .align-screen .ensures)
-
-quiet-requires : tie.Need-quiet-requires
-quiet-requires c κs = search needs
 
 returns-2 : tie.Need-returns-2
 returns-2 c = take-no _ _ (c .before .if1 .left) (c .quiet .ensures)
 
 pub hash-escape-spec : {M : Type 1} → statement M
-hash-escape-spec = tie.close (tie.spec align-screen-requires returns quiet-requires returns-2)
+hash-escape-spec = tie.close (tie.spec (λ c κs. search needs) returns (λ c κs. search needs) returns-2)

@@ -7,33 +7,6 @@ use Rattle.parser.proofs.Choice.{take-no}
 use Rattle.vt.proofs.escapes.plain_escape.Statement.{statement}
 use Rattle.vt.proofs.escapes.plain_escape.Tie as tie
 
-save-cursor-requires : tie.Need-save-cursor-requires
-save-cursor-requires c κs = search needs
-
-restore-cursor-requires : tie.Need-restore-cursor-requires
-restore-cursor-requires c κs = search needs
-
-reset-requires : tie.Need-reset-requires
-reset-requires c κs = search needs
-
-into-gl-requires : tie.Need-into-gl-requires
-into-gl-requires c κs = search needs
-
-into-gl-requires-2 : tie.Need-into-gl-requires-2
-into-gl-requires-2 c κs = search needs
-
-into-gr-requires : tie.Need-into-gr-requires
-into-gr-requires c κs = search needs
-
-into-gr-requires-2 : tie.Need-into-gr-requires-2
-into-gr-requires-2 c κs = search needs
-
-into-gr-requires-3 : tie.Need-into-gr-requires-3
-into-gr-requires-3 c κs = search needs
-
-quiet-requires : tie.Need-quiet-requires
-quiet-requires c κs = search needs
-
 returns : tie.Need-returns
 returns c = c .save-cursor .ensures ∙ ap (plainEscape (c .before .before .args .core)) (sym (c .before .match .keys1))
 
@@ -74,22 +47,6 @@ returns-9 c =
 pub plain-escape-spec : {M : Type 1} → statement M
 plain-escape-spec =
     tie.close
-    (tie.spec
-    save-cursor-requires
-    restore-cursor-requires
-    reset-requires
-    into-gl-requires
-    into-gl-requires-2
-    into-gr-requires
-    into-gr-requires-2
-    into-gr-requires-3
-    quiet-requires
-    returns
-    returns-2
-    returns-3
-    returns-4
-    returns-5
-    returns-6
-    returns-7
-    returns-8
-    returns-9)
+    (tie.spec (λ c κs. search needs) (λ c κs. search needs) (λ c κs. search needs) (λ c κs. search needs) (λ c κs. search needs)
+    (λ c κs. search needs) (λ c κs. search needs) (λ c κs. search needs) (λ c κs. search needs) returns returns-2 returns-3 returns-4 returns-5
+    returns-6 returns-7 returns-8 returns-9)

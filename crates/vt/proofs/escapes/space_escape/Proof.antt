@@ -3,31 +3,14 @@ use borrow.Author.Needs.{needs}
 use Rattle.vt.proofs.escapes.space_escape.Statement.{statement}
 use Rattle.vt.proofs.escapes.space_escape.Tie as tie
 
-with-eightbit-requires : tie.Need-with-eightbit-requires
-with-eightbit-requires c κs = search needs
-
 returns : tie.Need-returns
 returns c = rw (c .before .if1 .taken) (c .with-eightbit .ensures)
 
-with-eightbit-requires-2 : tie.Need-with-eightbit-requires-2
-with-eightbit-requires-2 c κs = search needs
-
 returns-2 : tie.Need-returns-2
 returns-2 c = rw (c .before .before .if1 .left, c .before .if2 .taken) (c .with-eightbit2 .ensures)
-
-quiet-requires : tie.Need-quiet-requires
-quiet-requires c κs = search needs
 
 returns-3 : tie.Need-returns-3
 returns-3 c = rw (c .before .before .if1 .left, c .before .if2 .left) (c .quiet .ensures)
 
 pub space-escape-spec : {M : Type 1} → statement M
-space-escape-spec =
-    tie.close
-    (tie.spec
-    with-eightbit-requires
-    returns
-    with-eightbit-requires-2
-    returns-2
-    quiet-requires
-    returns-3)
+space-escape-spec = tie.close (tie.spec (λ c κs. search needs) returns (λ c κs. search needs) returns-2 (λ c κs. search needs) returns-3)

@@ -3,19 +3,10 @@ use borrow.Author.Needs.{needs}
 use Rattle.vt.proofs.printing.glyph.Statement.{statement}
 use Rattle.vt.proofs.printing.glyph.Tie as tie
 
-used-set-requires : tie.Need-used-set-requires
-used-set-requires c κs = search needs
-
-shown-set-requires : tie.Need-shown-set-requires
-shown-set-requires c κs = search needs
-
-cell-word-requires : tie.Need-cell-word-requires
-cell-word-requires c κs = search needs
-
 returns : tie.Need-returns
 returns c =
     let s = c .before in
     rw (← s .before .used-set .ensures, ← s .shown-set .ensures) (c .cell-word .ensures)
 
 pub glyph-spec : {M : Type 1} → statement M
-glyph-spec = tie.close (tie.spec used-set-requires shown-set-requires cell-word-requires returns)
+glyph-spec = tie.close (tie.spec (λ c κs. search needs) (λ c κs. search needs) (λ c κs. search needs) returns)

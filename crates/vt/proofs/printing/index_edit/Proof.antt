@@ -4,9 +4,6 @@ use borrow.Author.Needs.{needs}
 use Rattle.vt.proofs.printing.index_edit.Statement.{statement}
 use Rattle.vt.proofs.printing.index_edit.Tie as tie
 
-sub-t4 : tie.Need-sub-t4
-sub-t4 c = search needs
-
 returns : tie.Need-returns
 returns c = rw (eq-eqb _ _ (c .before .if1 .taken))
 
@@ -14,4 +11,4 @@ returns-2 : tie.Need-returns-2
 returns-2 c = rw (ne-eqb _ _ (c .if1 .left))
 
 pub index-edit-spec : {M : Type 1} → statement M
-index-edit-spec = tie.close (tie.spec sub-t4 returns returns-2)
+index-edit-spec = tie.close (tie.spec (λ c. search needs) returns returns-2)

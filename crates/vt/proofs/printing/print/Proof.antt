@@ -6,26 +6,11 @@ use Rattle.vt.specs.Printing.{printed}
 use Rattle.vt.proofs.printing.print.Statement.{statement}
 use Rattle.vt.proofs.printing.print.Tie as tie
 
-used-set-requires : tie.Need-used-set-requires
-used-set-requires c κs = search needs
-
-without-shift-requires : tie.Need-without-shift-requires
-without-shift-requires c κs = search needs
-
-skipped-requires : tie.Need-skipped-requires
-skipped-requires c κs = search needs
-
-quiet-requires : tie.Need-quiet-requires
-quiet-requires c κs = search needs
-
 returns : tie.Need-returns
 unfolding printed
 returns c =
     let t = c .before in
     rw (← t .before .before .before .used-set .ensures, ← t .before .skipped .ensures, t .if1 .taken) (c .quiet .ensures)
-
-glyph-requires : tie.Need-glyph-requires
-glyph-requires c κs = search needs
 
 put-requires : tie.Need-put-requires
 put-requires c κs = rw (c .before .before .before .without-shift .ensures) (omega arith)
@@ -42,12 +27,5 @@ returns-2 c =
 pub print-spec : {M : Type 1} → statement M
 print-spec =
     tie.close
-    (tie.spec
-    used-set-requires
-    without-shift-requires
-    skipped-requires
-    quiet-requires
-    returns
-    glyph-requires
-    put-requires
+    (tie.spec (λ c κs. search needs) (λ c κs. search needs) (λ c κs. search needs) (λ c κs. search needs) returns (λ c κs. search needs) put-requires
     returns-2)

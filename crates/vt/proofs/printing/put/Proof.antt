@@ -6,11 +6,8 @@ use Rattle.vt.proofs.StrokeLaws.{stroke-puts}
 use Rattle.vt.proofs.printing.put.Statement.{statement}
 use Rattle.vt.proofs.printing.put.Tie as tie
 
-strike-requires : tie.Need-strike-requires
-strike-requires c κs = search needs
-
 returns : tie.Need-returns
 returns c = ap (struck (c .before .before .before .before .before .args .core)) (c .before .strike .ensures) ∙ stroke-puts (c .before .before .before .before .before .args .core) (c .before .before .before .before .before .args .word)
 
 pub put-spec : {M : Type 1} → statement M
-put-spec = tie.close (tie.spec strike-requires returns)
+put-spec = tie.close (tie.spec (λ c κs. search needs) returns)

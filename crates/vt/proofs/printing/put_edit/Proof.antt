@@ -3,12 +3,6 @@ use borrow.Author.Needs.{needs}
 use Rattle.vt.proofs.printing.put_edit.Statement.{statement}
 use Rattle.vt.proofs.printing.put_edit.Tie as tie
 
-sub-row : tie.Need-sub-row
-sub-row c = search needs
-
-sub-column : tie.Need-sub-column
-sub-column c = search needs
-
 returns : tie.Need-returns
 returns c = rw (c .if1 .taken)
 
@@ -16,4 +10,4 @@ returns-2 : tie.Need-returns-2
 returns-2 c = rw (c .if1 .left)
 
 pub put-edit-spec : {M : Type 1} → statement M
-put-edit-spec = tie.close (tie.spec sub-row sub-column returns returns-2)
+put-edit-spec = tie.close (tie.spec (λ c. search needs) (λ c. search needs) returns returns-2)

@@ -8,17 +8,8 @@ use Rattle.device.proofs.CursorLaws.{still-low}
 use Rattle.vt.proofs.printing.strike.Statement.{statement}
 use Rattle.vt.proofs.printing.strike.Tie as tie
 
-to-column-requires : tie.Need-to-column-requires
-to-column-requires c κs = search needs
-
 index-requires : tie.Need-index-requires
 index-requires c κs = rw (c .to-column .ensures) (omega arith)
-
-advance-requires : tie.Need-advance-requires
-advance-requires c κs = search needs
-
-index-edit-requires : tie.Need-index-edit-requires
-index-edit-requires c κs = search needs
 
 put-edit-requires : tie.Need-put-edit-requires
 put-edit-requires c κs =
@@ -31,25 +22,11 @@ returns c =
     take-yes _ _ (c .before .before .before .before .before .if1 .taken)
     (rw (c .put-edit .ensures, c .before .index-edit .ensures, c .before .before .advance .ensures, c .before .before .before .index .ensures, c .before .before .before .before .to-column .ensures))
 
-advance-requires-2 : tie.Need-advance-requires-2
-advance-requires-2 c κs = search needs
-
-put-edit-requires-2 : tie.Need-put-edit-requires-2
-put-edit-requires-2 c κs = search needs
-
 returns-2 : tie.Need-returns-2
 returns-2 c = take-no _ _ (c .before .before .if1 .left) (rw (c .put-edit2 .ensures, c .before .advance2 .ensures))
 
 pub strike-spec : {M : Type 1} → statement M
 strike-spec =
     tie.close
-    (tie.spec
-    to-column-requires
-    index-requires
-    advance-requires
-    index-edit-requires
-    put-edit-requires
-    returns
-    advance-requires-2
-    put-edit-requires-2
-    returns-2)
+    (tie.spec (λ c κs. search needs) index-requires (λ c κs. search needs) (λ c κs. search needs) put-edit-requires returns (λ c κs. search needs)
+    (λ c κs. search needs) returns-2)

@@ -4,17 +4,11 @@ use borrow.Author.Needs.{needs}
 use Rattle.vt.proofs.printing.used_set.Statement.{statement}
 use Rattle.vt.proofs.printing.used_set.Tie as tie
 
-left-set-requires : tie.Need-left-set-requires
-left-set-requires c κs = search needs
-
 returns : tie.Need-returns
 returns c = rw (lt-ltb _ _ (c .before .if1 .taken)) (c .left-set .ensures)
-
-right-set-requires : tie.Need-right-set-requires
-right-set-requires c κs = search needs
 
 returns-2 : tie.Need-returns-2
 returns-2 c = rw (le-ltb _ _ (c .before .if1 .left)) (c .right-set .ensures)
 
 pub used-set-spec : {M : Type 1} → statement M
-used-set-spec = tie.close (tie.spec left-set-requires returns right-set-requires returns-2)
+used-set-spec = tie.close (tie.spec (λ c κs. search needs) returns (λ c κs. search needs) returns-2)

@@ -4,15 +4,9 @@ use Rattle.vt.specs.Whole.{wholeCore}
 use Rattle.vt.proofs.whole.is_whole.Statement.{statement}
 use Rattle.vt.proofs.whole.is_whole.Tie as tie
 
-is-whole-screen-requires : tie.Need-is-whole-screen-requires
-is-whole-screen-requires c κs = search needs
-
-is-whole-parser-requires : tie.Need-is-whole-parser-requires
-is-whole-parser-requires c κs = search needs
-
 returns : tie.Need-returns
 unfolding wholeCore
 returns c = rw (c .before .is-whole-screen .ensures, c .is-whole-parser .ensures)
 
 pub is-whole-spec : {M : Type 1} → statement M
-is-whole-spec = tie.close (tie.spec is-whole-screen-requires is-whole-parser-requires returns)
+is-whole-spec = tie.close (tie.spec (λ c κs. search needs) (λ c κs. search needs) returns)

@@ -9,24 +9,6 @@ use Rattle.parser.proofs.Tests.{nine}
 use Rattle.vt.proofs.whole.is_whole_screen.Statement.{statement}
 use Rattle.vt.proofs.whole.is_whole_screen.Tie as tie
 
-is-sized-requires : tie.Need-is-sized-requires
-is-sized-requires c κs = search needs
-
-between-requires : tie.Need-between-requires
-between-requires c κs = search needs
-
-between-requires-2 : tie.Need-between-requires-2
-between-requires-2 c κs = search needs
-
-between-requires-3 : tie.Need-between-requires-3
-between-requires-3 c κs = search needs
-
-between-requires-4 : tie.Need-between-requires-4
-between-requires-4 c κs = search needs
-
-between-requires-5 : tie.Need-between-requires-5
-between-requires-5 c κs = search needs
-
 returns : tie.Need-returns
 returns c =
     let k = c .before .before .before .before .before .before .before .before .before .before .before .before .before .before .before .before .before .before .args .core in
@@ -43,4 +25,7 @@ returns c =
     (implies (k .saved .cursor .wrap) (eqb (k .saved .cursor .column) 80)))
 
 pub is-whole-screen-spec : {M : Type 1} → statement M
-is-whole-screen-spec = tie.close (tie.spec is-sized-requires between-requires between-requires-2 between-requires-3 between-requires-4 between-requires-5 returns)
+is-whole-screen-spec =
+    tie.close
+    (tie.spec (λ c κs. search needs) (λ c κs. search needs) (λ c κs. search needs) (λ c κs. search needs) (λ c κs. search needs)
+    (λ c κs. search needs) returns)

@@ -6,30 +6,6 @@ use Rattle.device.specs.Charsets.{designated}
 use Rattle.device.proofs.charsets.Sets.designate.Statement.{statement}
 use Rattle.device.proofs.charsets.Sets.designate.Tie as tie
 
-enum-told : tie.Need-enum-told
-enum-told c = search needs
-
-sets-of-requires : tie.Need-sets-of-requires
-sets-of-requires c κs = search needs
-
-enum-told-2 : tie.Need-enum-told-2
-enum-told-2 c = search needs
-
-sets-of-requires-2 : tie.Need-sets-of-requires-2
-sets-of-requires-2 c κs = search needs
-
-enum-told-3 : tie.Need-enum-told-3
-enum-told-3 c = search needs
-
-sets-of-requires-3 : tie.Need-sets-of-requires-3
-sets-of-requires-3 c κs = search needs
-
-enum-told-4 : tie.Need-enum-told-4
-enum-told-4 c = search needs
-
-sets-of-requires-4 : tie.Need-sets-of-requires-4
-sets-of-requires-4 c κs = search needs
-
 returns : tie.Need-returns
 returns c = c .sets-of .ensures ∙ ap (λ (x : Register). designated (c .before .before .before .args .self) x (c .before .before .before .args .set)) (sym (c .before .enum-told .given .1))
 
@@ -43,4 +19,7 @@ returns-4 : tie.Need-returns-4
 returns-4 c = c .sets-of4 .ensures ∙ ap (λ (x : Register). designated (c .before .before .before .args .self) x (c .before .before .before .args .set)) (sym (c .before .enum-told4 .given .1))
 
 pub designate-spec : {M : Type 1} → statement M
-designate-spec = tie.close (tie.spec enum-told sets-of-requires enum-told-2 sets-of-requires-2 enum-told-3 sets-of-requires-3 enum-told-4 sets-of-requires-4 returns returns-2 returns-3 returns-4)
+designate-spec =
+    tie.close
+    (tie.spec (λ c. search needs) (λ c κs. search needs) (λ c. search needs) (λ c κs. search needs) (λ c. search needs) (λ c κs. search needs)
+    (λ c. search needs) (λ c κs. search needs) returns returns-2 returns-3 returns-4)

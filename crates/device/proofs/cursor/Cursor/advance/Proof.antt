@@ -4,9 +4,6 @@ use borrow.Author.Needs.{needs}
 use Rattle.device.proofs.cursor.Cursor.advance.Statement.{statement}
 use Rattle.device.proofs.cursor.Cursor.advance.Tie as tie
 
-add-self : tie.Need-add-self
-add-self c = search needs
-
 returns : tie.Need-returns
 returns c = rw (lt-ltb _ _ (c .if1 .taken))
 
@@ -14,4 +11,4 @@ returns-2 : tie.Need-returns-2
 returns-2 c = rw (le-ltb _ _ (c .if1 .left))
 
 pub advance-spec : {M : Type 1} → statement M
-advance-spec = tie.close (tie.spec add-self returns returns-2)
+advance-spec = tie.close (tie.spec (λ c. search needs) returns returns-2)

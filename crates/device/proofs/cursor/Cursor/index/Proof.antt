@@ -10,11 +10,8 @@ returns c = rw (eq-eqb _ _ (c .if1 .taken))
 returns-2 : tie.Need-returns-2
 returns-2 c = rw (ne-eqb _ _ (c .before .if1 .left), eq-eqb _ _ (c .if2 .taken))
 
-add-self : tie.Need-add-self
-add-self c = search needs
-
 returns-3 : tie.Need-returns-3
 returns-3 c = rw (ne-eqb _ _ (c .before .if1 .left), ne-eqb _ _ (c .if2 .left))
 
 pub index-spec : {M : Type 1} → statement M
-index-spec = tie.close (tie.spec returns returns-2 add-self returns-3)
+index-spec = tie.close (tie.spec returns returns-2 (λ c. search needs) returns-3)

@@ -3,11 +3,8 @@ use borrow.Author.Needs.{needs}
 use Rattle.device.proofs.cursor.Cursor.right.Statement.{statement}
 use Rattle.device.proofs.cursor.Cursor.right.Tie as tie
 
-on-requires : tie.Need-on-requires
-on-requires c κs = search needs
-
 returns : tie.Need-returns
 returns c = rw (c .on .ensures)
 
 pub right-spec : {M : Type 1} → statement M
-right-spec = tie.close (tie.spec on-requires returns)
+right-spec = tie.close (tie.spec (λ c κs. search needs) returns)

@@ -3,11 +3,8 @@ use borrow.Author.Needs.{needs}
 use Rattle.device.proofs.cursor.Cursor.tab.Statement.{statement}
 use Rattle.device.proofs.cursor.Cursor.tab.Tie as tie
 
-next-requires : tie.Need-next-requires
-next-requires c κs = search needs
-
 returns : tie.Need-returns
 returns c = rw (c .next .ensures)
 
 pub tab-spec : {M : Type 1} → statement M
-tab-spec = tie.close (tie.spec next-requires returns)
+tab-spec = tie.close (tie.spec (λ c κs. search needs) returns)

@@ -3,11 +3,8 @@ use borrow.Author.Needs.{needs}
 use Rattle.device.proofs.cursor.Cursor.up.Statement.{statement}
 use Rattle.device.proofs.cursor.Cursor.up.Tie as tie
 
-back-requires : tie.Need-back-requires
-back-requires c κs = search needs
-
 returns : tie.Need-returns
 returns c = rw (c .back .ensures)
 
 pub up-spec : {M : Type 1} → statement M
-up-spec = tie.close (tie.spec back-requires returns)
+up-spec = tie.close (tie.spec (λ c κs. search needs) returns)

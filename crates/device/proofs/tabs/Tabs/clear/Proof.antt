@@ -1,34 +1,15 @@
 -- Each arm is the definition's, by the flag, whose weight is there where it is set.
 use mathlib.Core.Path.{sym, _∙_}
-use native.Mathlib.Omega.{arith}
 use borrow.Author.Needs.{needs}
 use Rattle.device.specs.Tabs.{withoutTab}
 use Rattle.device.proofs.TabLaws.{weight-there}
 use Rattle.device.proofs.tabs.Tabs.clear.Statement.{statement}
 use Rattle.device.proofs.tabs.Tabs.clear.Tie as tie
 
-get-requires : tie.Need-get-requires
-get-requires c κs = search needs
-
-sub-place : tie.Need-sub-place
-sub-place c = search needs
-
-cast-at : tie.Need-cast-at
-cast-at c = search needs
-
-element-copy-out-self : tie.Need-element-copy-out-self
-element-copy-out-self c = search needs
-
-weight-requires : tie.Need-weight-requires
-weight-requires c κs = search needs
-
 sub-self : tie.Need-sub-self
 sub-self c =
     let g = c .before .before .before in
-    rw (c .weight .ensures) (weight-there _ _ (omega arith) (sym (g .get .ensures) ∙ c .before .before .if1 .taken))
-
-element-write-self : tie.Need-element-write-self
-element-write-self c = search needs
+    rw (c .weight .ensures) (weight-there _ _ (sym (g .get .ensures) ∙ c .before .before .if1 .taken))
 
 returns : tie.Need-returns
 unfolding withoutTab
@@ -43,13 +24,5 @@ returns-2 c = rw (← c .before .get .ensures, c .if1 .left)
 pub clear-spec : {M : Type 1} → statement M
 clear-spec =
     tie.close
-    (tie.spec
-    get-requires
-    sub-place
-    cast-at
-    element-copy-out-self
-    weight-requires
-    sub-self
-    element-write-self
-    returns
-    returns-2)
+    (tie.spec (λ c κs. search needs) (λ c. search needs) (λ c. search needs) (λ c. search needs) (λ c κs. search needs) sub-self (λ c. search needs)
+    returns returns-2)

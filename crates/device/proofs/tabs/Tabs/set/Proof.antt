@@ -9,34 +9,16 @@ use Rattle.device.proofs.TabLaws.{weight-fits}
 use Rattle.device.proofs.tabs.Tabs.set.Statement.{statement}
 use Rattle.device.proofs.tabs.Tabs.set.Tie as tie
 
-get-requires : tie.Need-get-requires
-get-requires c κs = search needs
-
 returns : tie.Need-returns
 unfolding withTab
 returns c = rw (← c .before .get .ensures, c .if1 .taken)
-
-sub-place : tie.Need-sub-place
-sub-place c = search needs
-
-cast-at : tie.Need-cast-at
-cast-at c = search needs
-
-element-copy-out-self : tie.Need-element-copy-out-self
-element-copy-out-self c = search needs
-
-weight-requires : tie.Need-weight-requires
-weight-requires c κs = search needs
 
 add-self : tie.Need-add-self
 add-self c =
     let g = c .before .before .before in
     let h : Fits w8 (tabByte (g .before .args .t1) (g .before .args .column)) = search needs in
     rw (c .weight .ensures)
-    (record { fits = weight-fits _ _ (h .fits) (omega arith) (sym (g .get .ensures) ∙ c .before .before .if1 .left) })
-
-element-write-self : tie.Need-element-write-self
-element-write-self c = search needs
+    (record { fits = weight-fits _ 8 _ (h .fits) (omega arith) (sym (g .get .ensures) ∙ c .before .before .if1 .left) })
 
 returns-2 : tie.Need-returns-2
 unfolding withTab
@@ -47,13 +29,5 @@ returns-2 c =
 pub set-spec : {M : Type 1} → statement M
 set-spec =
     tie.close
-    (tie.spec
-    get-requires
-    returns
-    sub-place
-    cast-at
-    element-copy-out-self
-    weight-requires
-    add-self
-    element-write-self
-    returns-2)
+    (tie.spec (λ c κs. search needs) returns (λ c. search needs) (λ c. search needs) (λ c. search needs) (λ c κs. search needs) add-self
+    (λ c. search needs) returns-2)

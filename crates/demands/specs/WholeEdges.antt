@@ -1,0 +1,312 @@
+-- The edges of a whole state (SCOPE 1.9 to 1.18): for each clause states just inside and just outside. A state is a fresh one, of so
+-- many rows, with the fields changed that are named.
+use mathlib.Core.Path.{_≡_}
+use mathlib.Core.Bool.{Bool, true, false, not, _&&_}
+use mathlib.Core.List.{List, [], _∷_, _++_}
+use Prim.Native.Nat.{ℕ, _-_, _^_}
+use lib.ListN.{set}
+use Rattle.cells.specs.declared.Rendition.{Rendition}
+use Rattle.cells.specs.declared.CharSet.the-variants.{SpecialGraphics, Latin1}
+use Rattle.device.specs.declared.cursor.Cursor.{Cursor}
+use Rattle.device.specs.declared.charsets.Register.the-variants.{G0, G3}
+use Rattle.device.specs.declared.charsets.SingleShift.the-variants.{Ss3}
+use Rattle.device.specs.declared.charsets.Sets.{Sets}
+use Rattle.parser.specs.declared.params.Params.{Params}
+use Rattle.parser.specs.declared.parser.Phase.{Phase}
+use Rattle.parser.specs.declared.parser.Phase.the-variants.{Ground, Escape, EscapeOne, EscapeTwo, EscapeIgnore, CsiEntry, CsiParam, CsiOne, CsiTwo, CsiIgnore, StringText}
+use Rattle.parser.specs.declared.parser.Parser.{Parser}
+use Rattle.vt.specs.declared.core.Margins.{Margins}
+use Rattle.vt.specs.declared.core.Modes.{Modes}
+use Rattle.vt.specs.declared.core.Saved.{Saved}
+use Rattle.terminal.specs.declared.State.{State}
+use Rattle.device.specs.Tabs.{noTabs}
+use Rattle.vt.specs.Fresh.{freshCore}
+use Rattle.vt.specs.Whole.{wholeCore}
+use Rattle.terminal.specs.Whole.{wholeState}
+use Rattle.terminal.specs.Start.{fresh}
+
+-- ---- one field changed
+
+-- a state with these parts in the place of its own
+abbrev withParts : State → Cursor → Margins → Modes → Saved → Parser → State
+withParts s u m o v p =
+    let c = s .core in
+    record {
+      core = record {
+        rows = c .rows;
+        cursor = u;
+        margins = m;
+        tabs = c .tabs;
+        modes = o;
+        rendition = c .rendition;
+        protected = c .protected;
+        sets = c .sets;
+        shift = c .shift;
+        saved = v;
+        parser = p;
+      };
+      changed = s .changed;
+    }
+
+abbrev withCursor : State → Cursor → State
+withCursor s u = let c = s .core in withParts s u (c .margins) (c .modes) (c .saved) (c .parser)
+
+abbrev withModes : State → Modes → State
+withModes s o = let c = s .core in withParts s (c .cursor) (c .margins) o (c .saved) (c .parser)
+
+abbrev withSaved : State → Saved → State
+withSaved s v = let c = s .core in withParts s (c .cursor) (c .margins) (c .modes) v (c .parser)
+
+abbrev withParser : State → Parser → State
+withParser s p = let c = s .core in withParts s (c .cursor) (c .margins) (c .modes) (c .saved) p
+
+abbrev pub row : ℕ → State → State
+row r s = let u = s .core .cursor in withCursor s (record { row = r; column = u .column; wrap = u .wrap })
+
+abbrev pub column : ℕ → State → State
+column c s = let u = s .core .cursor in withCursor s (record { row = u .row; column = c; wrap = u .wrap })
+
+abbrev pub wrapDue : State → State
+wrapDue s = let u = s .core .cursor in withCursor s (record { row = u .row; column = u .column; wrap = true })
+
+-- T and B
+abbrev pub margins : ℕ → ℕ → State → State
+margins t b s = let c = s .core in withParts s (c .cursor) (record { top = t; bottom = b }) (c .modes) (c .saved) (c .parser)
+
+-- origin on
+abbrev pub origin : State → State
+origin s =
+    let o = s .core .modes in
+    withModes s (record { insert = o .insert; newline = o .newline; origin = true; autowrap = o .autowrap; shown = o .shown; eightbit = o .eightbit })
+
+-- autowrap on
+abbrev pub autowrap : State → State
+autowrap s =
+    let o = s .core .modes in
+    withModes s (record { insert = o .insert; newline = o .newline; origin = o .origin; autowrap = true; shown = o .shown; eightbit = o .eightbit })
+
+abbrev pub savedCursor : ℕ → ℕ → Bool → State → State
+savedCursor r c w s =
+    let v = s .core .saved in
+    withSaved s (record { cursor = record { row = r; column = c; wrap = w }; rendition = v .rendition; origin = v .origin; sets = v .sets })
+
+abbrev pub savedRow : ℕ → State → State
+savedRow r s = savedCursor r (s .core .saved .cursor .column) (s .core .saved .cursor .wrap) s
+
+abbrev pub savedColumn : ℕ → State → State
+savedColumn c s = savedCursor (s .core .saved .cursor .row) c (s .core .saved .cursor .wrap) s
+
+abbrev pub savedWrapDue : State → State
+savedWrapDue s = savedCursor (s .core .saved .cursor .row) (s .core .saved .cursor .column) true s
+
+-- saved with origin on
+abbrev pub savedOrigin : State → State
+savedOrigin s = let v = s .core .saved in withSaved s (record { cursor = v .cursor; rendition = v .rendition; origin = true; sets = v .sets })
+
+abbrev pub phase : Phase → State → State
+phase p s =
+    let q = s .core .parser in
+    withParser s (record { phase = p; mark = q .mark; first = q .first; second = q .second; params = q .params })
+
+abbrev pub mark : ℕ → State → State
+mark x s =
+    let q = s .core .parser in
+    withParser s (record { phase = q .phase; mark = x; first = q .first; second = q .second; params = q .params })
+
+-- the first intermediate, and the second
+abbrev pub first : ℕ → State → State
+first x s =
+    let q = s .core .parser in
+    withParser s (record { phase = q .phase; mark = q .mark; first = x; second = q .second; params = q .params })
+
+abbrev pub second : ℕ → State → State
+second x s =
+    let q = s .core .parser in
+    withParser s (record { phase = q .phase; mark = q .mark; first = q .first; second = x; params = q .params })
+
+abbrev withParams : State → Params → State
+withParams s a =
+    let q = s .core .parser in
+    withParser s (record { phase = q .phase; mark = q .mark; first = q .first; second = q .second; params = a })
+
+-- so many separators: one parameter more is kept, 16 at most
+abbrev pub separators : ℕ → State → State
+separators n s = withParams s (record { separators = n; values = s .core .parser .params .values })
+
+-- value i of the sixteen, from 1
+abbrev pub value : ℕ → ℕ → State → State
+value i x s = let a = s .core .parser .params in withParams s (record { separators = a .separators; values = set (a .values) (i - 1) x })
+
+-- row 1 is the lowest bit
+abbrev pub changedRows : ℕ → State → State
+changedRows n s = record { core = s .core; changed = n }
+
+-- all that the clauses do not name, as it is not when fresh
+abbrev pub allElse : State → State
+allElse s =
+    let c = s .core in
+    let drawn : Rendition = record { bold = true; underline = true; blink = true; reverse = true } in
+    let sets : Sets = record { g0 = Latin1; g1 = SpecialGraphics; g2 = Latin1; g3 = Latin1; gl = G3; gr = G0 } in
+    record {
+      core = record {
+        rows = c .rows;
+        cursor = c .cursor;
+        margins = c .margins;
+        tabs = noTabs;
+        modes = record { insert = true; newline = true; origin = c .modes .origin; autowrap = c .modes .autowrap; shown = false; eightbit = true };
+        rendition = drawn;
+        protected = true;
+        sets = sets;
+        shift = Ss3;
+        saved = record { cursor = c .saved .cursor; rendition = drawn; origin = true; sets = sets };
+        parser = c .parser;
+      };
+      changed = s .changed;
+    }
+
+-- ---- the edges, clause by clause
+
+pub data Edge : Type 0 where
+  whole : State → Edge
+  broken : State → Edge
+
+-- R: 24, 36 or 48
+abbrev pub sizes : List Edge
+sizes =
+    broken (fresh 0)
+    ∷ broken (fresh 23) ∷ whole (fresh 24) ∷ broken (fresh 25)
+    ∷ broken (fresh 35) ∷ whole (fresh 36) ∷ broken (fresh 37)
+    ∷ broken (fresh 47) ∷ whole (fresh 48) ∷ broken (fresh 49)
+    ∷ []
+
+-- 1 ≤ row ≤ R
+abbrev pub rows : List Edge
+rows =
+    broken (row 0 (fresh 24)) ∷ whole (row 1 (fresh 24)) ∷ whole (row 24 (fresh 24)) ∷ broken (row 25 (fresh 24))
+    ∷ whole (row 36 (fresh 36)) ∷ broken (row 37 (fresh 36))
+    ∷ whole (row 48 (fresh 48)) ∷ broken (row 49 (fresh 48))
+    ∷ []
+
+-- 1 ≤ column ≤ 80
+abbrev pub columns : List Edge
+columns = broken (column 0 (fresh 24)) ∷ whole (column 1 (fresh 24)) ∷ whole (column 80 (fresh 24)) ∷ broken (column 81 (fresh 24)) ∷ []
+
+-- 1 ≤ T < B ≤ R
+abbrev pub scrolling : List Edge
+scrolling =
+    broken (margins 0 24 (fresh 24)) ∷ whole (margins 1 24 (fresh 24))
+    ∷ whole (margins 5 6 (fresh 24)) ∷ broken (margins 5 5 (fresh 24)) ∷ broken (margins 6 5 (fresh 24))
+    ∷ whole (margins 23 24 (fresh 24)) ∷ broken (margins 24 24 (fresh 24)) ∷ broken (margins 1 25 (fresh 24))
+    ∷ whole (margins 1 36 (fresh 36)) ∷ broken (margins 1 37 (fresh 36))
+    ∷ whole (margins 1 48 (fresh 48)) ∷ broken (margins 1 49 (fresh 48))
+    ∷ []
+
+-- wrap due only in column 80 with autowrap on
+abbrev pub wrapping : List Edge
+wrapping =
+    whole (autowrap (column 80 (wrapDue (fresh 24)))) ∷ broken (autowrap (column 79 (wrapDue (fresh 24))))
+    ∷ broken (column 80 (wrapDue (fresh 24))) ∷ broken (column 79 (wrapDue (fresh 24)))
+    ∷ whole (autowrap (column 80 (fresh 24))) ∷ whole (autowrap (column 79 (fresh 24)))
+    ∷ []
+
+-- with origin on T ≤ row ≤ B
+abbrev pub origins : List Edge
+origins =
+    let s = margins 5 10 (fresh 24) in
+    broken (origin (row 4 s)) ∷ whole (origin (row 5 s)) ∷ whole (origin (row 10 s)) ∷ broken (origin (row 11 s))
+    ∷ whole (row 4 s) ∷ whole (row 11 s) ∷ whole (savedOrigin (row 4 s)) ∷ whole (savedOrigin (row 11 s))
+    ∷ []
+
+-- saved row and column on the page, saved wrap due only in column 80; the margins, origin and autowrap do not matter
+abbrev pub saving : List Edge
+saving =
+    broken (savedRow 0 (fresh 24)) ∷ whole (savedRow 1 (fresh 24)) ∷ whole (savedRow 24 (fresh 24)) ∷ broken (savedRow 25 (fresh 24))
+    ∷ whole (savedRow 36 (fresh 36)) ∷ broken (savedRow 37 (fresh 36))
+    ∷ whole (savedRow 48 (fresh 48)) ∷ broken (savedRow 49 (fresh 48))
+    ∷ broken (savedColumn 0 (fresh 24)) ∷ whole (savedColumn 1 (fresh 24)) ∷ whole (savedColumn 80 (fresh 24)) ∷ broken (savedColumn 81 (fresh 24))
+    ∷ whole (savedWrapDue (savedColumn 80 (fresh 24))) ∷ broken (savedWrapDue (savedColumn 79 (fresh 24)))
+    ∷ whole (autowrap (savedWrapDue (savedColumn 80 (fresh 24)))) ∷ broken (autowrap (savedWrapDue (savedColumn 79 (fresh 24))))
+    ∷ (let s = savedOrigin (origin (row 5 (margins 5 10 (fresh 24)))) in whole (savedRow 4 s) ∷ whole (savedRow 11 s) ∷ [])
+
+-- at most 16 parameters, none above 9,999; what lies past the last one is none
+abbrev pub parameters : List Edge
+parameters =
+    whole (separators 15 (fresh 24)) ∷ whole (separators 16 (fresh 24)) ∷ broken (separators 17 (fresh 24))
+    ∷ whole (phase CsiParam (separators 16 (fresh 24))) ∷ broken (phase CsiParam (separators 17 (fresh 24)))
+    ∷ whole (value 1 9999 (fresh 24)) ∷ broken (value 1 10000 (fresh 24))
+    ∷ whole (value 2 10000 (fresh 24)) ∷ whole (separators 1 (value 2 9999 (fresh 24))) ∷ broken (separators 1 (value 2 10000 (fresh 24)))
+    ∷ whole (separators 14 (value 16 10000 (fresh 24)))
+    ∷ whole (separators 15 (value 16 9999 (fresh 24))) ∷ broken (separators 15 (value 16 10000 (fresh 24)))
+    ∷ whole (separators 16 (value 16 9999 (fresh 24))) ∷ broken (separators 16 (value 16 10000 (fresh 24)))
+    ∷ broken (phase CsiParam (value 1 10000 (fresh 24)))
+    ∷ []
+
+-- an intermediate that counts: 20 to 2F
+abbrev counting : (ℕ → State) → List Edge
+counting f = broken (f 0) ∷ broken (f 0x1F) ∷ whole (f 0x20) ∷ whole (f 0x2F) ∷ broken (f 0x30) ∷ []
+
+-- and one that does not
+abbrev notCounting : (ℕ → State) → List Edge
+notCounting f = whole (f 0) ∷ whole (f 0x1F) ∷ whole (f 0x20) ∷ whole (f 0x2F) ∷ whole (f 0x30) ∷ []
+
+-- where none, one and two were collected
+abbrev noneCounts : Phase → List Edge
+noneCounts p = notCounting (λ x. phase p (first x (fresh 24))) ++ notCounting (λ x. phase p (second x (fresh 24)))
+
+abbrev oneCounts : Phase → List Edge
+oneCounts p = counting (λ x. phase p (first x (fresh 24))) ++ notCounting (λ x. phase p (first 0x20 (second x (fresh 24))))
+
+abbrev twoCount : Phase → List Edge
+twoCount p = counting (λ x. phase p (first x (second 0x20 (fresh 24)))) ++ counting (λ x. phase p (first 0x20 (second x (fresh 24))))
+
+-- at most two intermediates, 20 to 2F: the phase tells how many there are
+abbrev pub intermediates : List Edge
+intermediates =
+    noneCounts Ground
+    ++ noneCounts Escape ++ oneCounts EscapeOne ++ twoCount EscapeTwo ++ noneCounts EscapeIgnore
+    ++ noneCounts CsiEntry ++ noneCounts CsiParam ++ oneCounts CsiOne ++ twoCount CsiTwo ++ noneCounts CsiIgnore
+    ++ noneCounts StringText
+
+-- mark none or 3C to 3F, in ground too
+abbrev marking : State → List Edge
+marking s =
+    whole (mark 0 s) ∷ broken (mark 1 s) ∷ broken (mark 0x3B s)
+    ∷ whole (mark 0x3C s) ∷ whole (mark 0x3D s) ∷ whole (mark 0x3E s) ∷ whole (mark 0x3F s)
+    ∷ broken (mark 0x40 s) ∷ broken (mark 0x7F s) ∷ broken (mark 0xFF s)
+    ∷ []
+
+abbrev pub marks : List Edge
+marks = marking (fresh 24) ++ marking (phase CsiParam (fresh 24))
+
+-- no changed row above R
+abbrev pub changes : List Edge
+changes =
+    whole (changedRows (2 ^ 23) (fresh 24)) ∷ whole (changedRows (2 ^ 24 - 1) (fresh 24)) ∷ broken (changedRows (2 ^ 24) (fresh 24))
+    ∷ whole (changedRows (2 ^ 35) (fresh 36)) ∷ whole (changedRows (2 ^ 36 - 1) (fresh 36)) ∷ broken (changedRows (2 ^ 36) (fresh 36))
+    ∷ whole (changedRows (2 ^ 47) (fresh 48)) ∷ whole (changedRows (2 ^ 48 - 1) (fresh 48)) ∷ broken (changedRows (2 ^ 48) (fresh 48))
+    ∷ broken (changedRows (2 ^ 63) (fresh 48))
+    ∷ []
+
+-- nothing else is asked
+abbrev pub others : List Edge
+others = whole (allElse (fresh 24)) ∷ whole (allElse (fresh 36)) ∷ whole (allElse (fresh 48)) ∷ []
+
+abbrev pub table : List Edge
+table =
+    sizes ++ rows ++ columns ++ scrolling ++ wrapping ++ origins ++ saving ++ parameters ++ intermediates ++ marks ++ changes ++ others
+
+-- ---- the statement
+
+-- a state is as the table has it
+unfoldable pub holds : Edge → Bool
+unfolding freshCore wholeCore wholeState
+holds (whole s) = wholeState s
+holds (broken s) = not (wholeState s)
+
+abbrev pub allHold : List Edge → Bool
+allHold [] = true
+allHold (e ∷ es) = holds e && allHold es
+
+-- Every state of the table is whole or broken as the table says.
+abbrev pub Edges : Type 0
+Edges = allHold table ≡ true

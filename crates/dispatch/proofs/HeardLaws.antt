@@ -1,0 +1,221 @@
+-- What is not listed has no function and draws no reply, so the code asks only what is ignored here and now.
+use mathlib.Core.Path.{_≡_, refl, sym, ap, _∙_}
+use mathlib.Core.Bool.{Bool, true, false, cond, not, _&&_, _||_, false≢true}
+use mathlib.Core.List.{List}
+use Prim.Native.Nat.{ℕ}
+use lib.Dec.{eqb}
+use borrow.Author.Tests.{eqb-true, ne-eqb}
+use Rattle.parser.specs.declared.params.Params.{Params}
+use Rattle.parser.specs.declared.parser.Action.{Action}
+use Rattle.parser.specs.declared.parser.Action.the-variants.{Nothing, Character, Substitute, Control, C1Control, EscapeSequence, ControlSequence}
+use Rattle.device.specs.declared.sending.Reply.the-variants.{SecondaryAttributes, Silent}
+use Rattle.vt.specs.declared.core.Core.{Core}
+use Rattle.vt.specs.Controls.{controlled, c1Controlled}
+use Rattle.vt.specs.Escapes.{escaped}
+use Rattle.vt.specs.Effects.{quiet}
+use Rattle.parser.specs.Params.{param, member}
+use Rattle.parser.specs.Families.{isPlain, isMarked, isProtection, isSoftReset}
+use Rattle.csi.specs.Sequences.{marginsTaken, selectProtection, softReset, plainSequence, markedSequence, sequenced}
+use Rattle.parser.proofs.Tests.{or-left, or-right, at-number}
+use Rattle.dispatch.specs.Heard.{controls, c1Controls, plainEscapes, names94, listedEscape, plainFinals, markedFinals, isSecondary, listedSequence}
+use Rattle.dispatch.specs.Heard.{isListed, plainIgnored, markedIgnored, ignoredSequence, isIgnored, unlessIgnored, isHeard, heard}
+use Rattle.dispatch.specs.WrapDue.{keepsWrap, clearsWrap, settled}
+use Rattle.dispatch.specs.Replies.{plainReply, markedReply, reply, replyTo}
+use Rattle.dispatch.specs.Decide.{effect, executed}
+
+-- ---- tests
+
+-- a number that is not in a list is none of the list's
+other : (ks : List ℕ) (n : ℕ) → member n ks ≡ false → (k : ℕ) → member k ks ≡ true → eqb n k ≡ false
+other ks n h k e = go (eqb n k) refl
+  where
+    go : (t : Bool) → eqb n k ≡ t → eqb n k ≡ false
+    go true p = absurd (false≢true (sym h ∙ ap (λ (x : ℕ). member x ks) (eqb-true n k p) ∙ e))
+    go false p = p
+
+pub not-false : (b : Bool) → not b ≡ false → b ≡ true
+not-false true e = refl
+not-false false e = sym e
+
+-- two or three tests, none of which holds
+none-of-two : (s a b : Bool) → (s && (a || (b || false))) ≡ false → ((s && a) ≡ false) × ((s && b) ≡ false)
+none-of-two true true b e = absurd (false≢true (sym e))
+none-of-two true false true e = absurd (false≢true (sym e))
+none-of-two true false false e = (refl, refl)
+none-of-two false a b e = (refl, refl)
+
+none-of-three : (a b c : Bool) → (a || (b || c)) ≡ false → (a ≡ false) × (b ≡ false) × (c ≡ false)
+none-of-three a b c e = (or-left a (b || c) e, or-left b c (or-right a (b || c) e), or-right b c (or-right a (b || c) e))
+
+-- ---- what is not listed has no function
+
+control-quiet : (c : Core) (b : ℕ) → member b controls ≡ false → controlled c b ≡ quiet c
+unfolding controlled
+control-quiet c b h = rw (o 0x08 refl, o 0x09 refl, o 0x0A refl, o 0x0B refl, o 0x0C refl, o 0x0D refl, o 0x0E refl, o 0x0F refl)
+  where
+    o : (k : ℕ) → member k controls ≡ true → eqb b k ≡ false
+    o = other controls b h
+
+c1-quiet : (c : Core) (b : ℕ) → member b c1Controls ≡ false → c1Controlled c b ≡ quiet c
+unfolding c1Controlled
+c1-quiet c b h = rw (o 0x84 refl, o 0x85 refl, o 0x88 refl, o 0x8D refl, o 0x8E refl, o 0x8F refl)
+  where
+    o : (k : ℕ) → member k c1Controls ≡ true → eqb b k ≡ false
+    o = other c1Controls b h
+
+escape-quiet : (c : Core) (first second last : ℕ) → listedEscape first second last ≡ false → escaped c first second last ≡ quiet c
+unfolding escaped
+escape-quiet c first second last =
+    at-number P first 0 plain
+    (λ n1. at-number P first 0x20 (λ h. let f = none-of-two (eqb second 0) (eqb last 0x46) (eqb last 0x47) h in rw (f .0, f .1))
+    (λ n2. at-number P first 0x23 (λ h. rw h)
+    (λ n3. at-number P first 0x28 (λ h. rw (unnamed h .0, unnamed h .1, unnamed h .2))
+    (λ n4. at-number P first 0x29 (λ h. rw (unnamed h .0, unnamed h .1, unnamed h .2))
+    (λ n5. at-number P first 0x2A (λ h. rw (unnamed h .0, unnamed h .1, unnamed h .2))
+    (λ n6. at-number P first 0x2B (λ h. rw (unnamed h .0, unnamed h .1, unnamed h .2))
+    (λ n7. at-number P first 0x2D (λ h. rw h)
+    (λ n8. at-number P first 0x2E (λ h. rw h)
+    (λ n9. at-number P first 0x2F (λ h. rw h)
+    (λ n10 h. rw (ne-eqb first 0 n1, ne-eqb first 0x20 n2, ne-eqb first 0x23 n3, ne-eqb first 0x28 n4, ne-eqb first 0x29 n5, ne-eqb first 0x2A n6)
+    (rw (ne-eqb first 0x2B n7, ne-eqb first 0x2D n8, ne-eqb first 0x2E n9, ne-eqb first 0x2F n10))))))))))))
+  where
+    P : ℕ → Type 0
+    P x = listedEscape x second last ≡ false → escaped c x second last ≡ quiet c
+
+    plain : P 0
+    plain h =
+        let o = other plainEscapes last h in
+        rw (o 0x37 refl, o 0x38 refl, o 0x63 refl, o 0x6E refl, o 0x6F refl, o 0x7E refl, o 0x7D refl, o 0x7C refl)
+
+    unnamed : names94 second last ≡ false
+        → ((eqb second 0 && eqb last 0x42) ≡ false) × ((eqb second 0 && eqb last 0x30) ≡ false) × ((eqb second 0x25 && eqb last 0x35) ≡ false)
+    unnamed h = none-of-three (eqb second 0 && eqb last 0x42) (eqb second 0 && eqb last 0x30) (eqb second 0x25 && eqb last 0x35) h
+
+plain-quiet : (c : Core) (q : Params) (last : ℕ) → member last plainFinals ≡ false → plainSequence c q last ≡ quiet c
+plain-quiet c q last h =
+    rw (o 0x40 refl, o 0x41 refl, o 0x42 refl, o 0x43 refl, o 0x44 refl, o 0x48 refl, o 0x4A refl, o 0x4B refl, o 0x4C refl)
+    (rw (o 0x4D refl, o 0x50 refl, o 0x58 refl, o 0x66 refl, o 0x67 refl, o 0x68 refl, o 0x6C refl, o 0x6D refl, o 0x72 refl))
+  where
+    o : (k : ℕ) → member k plainFinals ≡ true → eqb last k ≡ false
+    o = other plainFinals last h
+
+marked-quiet : (c : Core) (q : Params) (last : ℕ) → member last markedFinals ≡ false → markedSequence c q last ≡ quiet c
+marked-quiet c q last h = rw (o 0x4A refl, o 0x4B refl, o 0x68 refl, o 0x6C refl)
+  where
+    o : (k : ℕ) → member k markedFinals ≡ true → eqb last k ≡ false
+    o = other markedFinals last h
+
+sequence-quiet : (c : Core) (q : Params) (mark first second last : ℕ) → listedSequence mark first second last ≡ false
+    → sequenced c q mark first second last ≡ quiet c
+unfolding sequenced
+sequence-quiet c q mark first second last =
+    go (isPlain mark first second) (isMarked mark first second)
+    (isSecondary mark first second last) (isProtection mark first second last) (isSoftReset mark first second last)
+  where
+    go : (i j s p r : Bool) → cond i (member last plainFinals) (cond j (member last markedFinals) (cond s true (cond p true r))) ≡ false
+        → cond i (plainSequence c q last) (cond j (markedSequence c q last) (cond p (selectProtection c q) (cond r (quiet (softReset c)) (quiet c)))) ≡ quiet c
+    go true j s p r h = plain-quiet c q last h
+    go false true s p r h = marked-quiet c q last h
+    go false false true p r h = absurd (false≢true (sym h))
+    go false false false true r h = absurd (false≢true (sym h))
+    go false false false false r h = rw h
+
+pub unlisted-quiet : (c : Core) (a : Action) → isListed a ≡ false → effect c a ≡ quiet c
+unlisted-quiet c Nothing h = refl
+unlisted-quiet c (Character b) h = absurd (false≢true (sym h))
+unlisted-quiet c Substitute h = absurd (false≢true (sym h))
+unlisted-quiet c (Control b) h = control-quiet c b h
+unlisted-quiet c (C1Control b) h = c1-quiet c b h
+unlisted-quiet c (EscapeSequence first second last) h = escape-quiet c first second last h
+unlisted-quiet c (ControlSequence mark first second last) h = sequence-quiet c (c .parser .params) mark first second last h
+
+-- so what is not ignored does what it does, listed or not
+pub heard-effect : (c : Core) (a : Action) → isIgnored c a ≡ false → effect c a ≡ effect c (heard c a)
+heard-effect c a e = rw e (go (isListed a) refl)
+  where
+    go : (t : Bool) → isListed a ≡ t → effect c a ≡ effect c (cond (t && true) a Nothing)
+    go true l = refl
+    go false l = unlisted-quiet c a l
+
+-- and what is ignored does nothing
+pub ignored-quiet : (c : Core) (a : Action) → isIgnored c a ≡ true → quiet c ≡ executed c a
+unfolding executed clearsWrap
+ignored-quiet c a e = rw e (go (isListed a))
+  where
+    go : (t : Bool) → let x = cond (t && false) a Nothing in quiet c ≡ settled (not (keepsWrap (c .parser .params) x)) (effect c x)
+    go true = refl
+    go false = refl
+
+-- so an action may be taken for nothing first, and then it is not ignored
+pub unignored : (c : Core) (a : Action) → isIgnored c (unlessIgnored c a) ≡ false
+unignored c a = go (isIgnored c a) refl
+  where
+    go : (t : Bool) → isIgnored c a ≡ t → isIgnored c (cond t Nothing a) ≡ false
+    go true e = refl
+    go false e = e
+
+pub executed-unignored : (c : Core) (a : Action) → executed c (unlessIgnored c a) ≡ executed c a
+unfolding executed clearsWrap
+executed-unignored c a = go (isIgnored c a) refl
+  where
+    go : (t : Bool) → isIgnored c a ≡ t → executed c (cond t Nothing a) ≡ executed c a
+    go true e = ignored-quiet c a e
+    go false e = refl
+
+-- r that is not ignored has margins that are taken
+pub heard-taken : (c : Core) (a : Action) (mark first second last : ℕ) → isIgnored c a ≡ false → a ≡ ControlSequence mark first second last
+    → isPlain mark first second ≡ true → last ≡ 0x72 → marginsTaken c (c .parser .params) ≡ true
+heard-taken c a mark first second last h s p e =
+    let i : ignoredSequence c (c .parser .params) mark first second last ≡ false = rw s at h in
+    not-false (marginsTaken c (c .parser .params)) (rw (p, e) at i)
+
+-- ---- what is not heard draws no reply
+
+plain-silent : (c : Core) (q : Params) (last : ℕ) → (member last plainFinals && not (plainIgnored c q last)) ≡ false → plainReply c q last ≡ Silent
+plain-silent c q last =
+    at-number P last 0x63 (λ h. absurd (false≢true (sym h)))
+    (λ n. at-number P last 0x6E (λ h. absurd (false≢true (sym h)))
+    (λ m h. rw (ne-eqb last 0x63 n, ne-eqb last 0x6E m)))
+  where
+    P : ℕ → Type 0
+    P x = (member x plainFinals && not (plainIgnored c q x)) ≡ false → plainReply c q x ≡ Silent
+
+marked-silent : (c : Core) (q : Params) (last : ℕ) → (member last markedFinals && not (markedIgnored q last)) ≡ false → markedReply c q last ≡ Silent
+marked-silent c q last = at-number P last 0x6E (λ h. absurd (false≢true (sym h))) (λ n h. rw (ne-eqb last 0x6E n))
+  where
+    P : ℕ → Type 0
+    P x = (member x markedFinals && not (markedIgnored q x)) ≡ false → markedReply c q x ≡ Silent
+
+unheard-silent : (c : Core) (a : Action) → isHeard c a ≡ false → reply c a ≡ Silent
+unheard-silent c Nothing h = refl
+unheard-silent c (Character b) h = refl
+unheard-silent c Substitute h = refl
+unheard-silent c (Control b) h = refl
+unheard-silent c (C1Control b) h = at-number P b 0x9A (λ h. absurd (false≢true (sym h))) (λ n h. rw (ne-eqb b 0x9A n)) h
+  where
+    P : ℕ → Type 0
+    P x = isHeard c (C1Control x) ≡ false → reply c (C1Control x) ≡ Silent
+unheard-silent c (EscapeSequence first second last) h = refl
+unheard-silent c (ControlSequence mark first second last) h =
+    go (isPlain mark first second) (isMarked mark first second)
+    (isSecondary mark first second last) (isProtection mark first second last) (isSoftReset mark first second last) h
+  where
+    q : Params
+    q = c .parser .params
+
+    go : (i j s p r : Bool)
+        → (cond i (member last plainFinals) (cond j (member last markedFinals) (cond s true (cond p true r)))
+        && not (cond i (plainIgnored c q last) (j && markedIgnored q last))) ≡ false
+        → cond i (plainReply c q last) (cond j (markedReply c q last) (cond (s && eqb (param q 0) 0) SecondaryAttributes Silent)) ≡ Silent
+    go true j s p r h = plain-silent c q last h
+    go false true s p r h = marked-silent c q last h
+    go false false true p r h = absurd (false≢true (sym h))
+    go false false false p r h = refl
+
+pub reply-heard : (c : Core) (a : Action) → reply c a ≡ replyTo c a
+unfolding replyTo
+reply-heard c a = go (isHeard c a) refl
+  where
+    go : (t : Bool) → isHeard c a ≡ t → reply c a ≡ reply c (cond t a Nothing)
+    go true e = refl
+    go false e = unheard-silent c a e

@@ -1,0 +1,74 @@
+// What is heard: an action that is ignored here and now is nothing. What is not listed does nothing by itself.
+use csi::modes::margins_taken;
+use parser::families::is_marked;
+use parser::families::is_plain;
+use parser::params::Params;
+use parser::parser::Action;
+use vt::core::Core;
+ghost use mathlib.Core.Path.{_≡_};
+ghost use Rattle.dispatch.specs.Heard as hearing;
+
+fn inside_margins(core: Core) -> bool
+    ensures { λ r. ⌜ r ≡ hearing.insideMargins core ⌝ }
+{
+    let row = core.cursor.row;
+    (core.margins.top <= row) & (row <= core.margins.bottom)
+}
+
+// ICH, IL, DL, DCH outside T to B; ED, EL with a selector that is not listed; DECSTBM unless top is above bottom.
+fn plain_ignored(core: Core, params: Params, last: u8) -> bool
+    ensures { λ r. ⌜ r ≡ hearing.plainIgnored core params last ⌝ }
+{
+    match last {
+        0x40 => !inside_margins(core),
+        0x4A => 2 < params.get(0),
+        0x4B => 2 < params.get(0),
+        0x4C => !inside_margins(core),
+        0x4D => !inside_margins(core),
+        0x50 => !inside_margins(core),
+        0x72 => !margins_taken(core, params),
+        _ => false,
+    }
+}
+
+// DECSED, DECSEL likewise.
+fn marked_ignored(params: Params, last: u8) -> bool
+    ensures { λ r. ⌜ r ≡ hearing.markedIgnored params last ⌝ }
+{
+    ((last == 0x4A) | (last == 0x4B)) & (2 < params.get(0))
+}
+
+fn ignored_sequence(core: Core, params: Params, mark: u8, first: u8, second: u8, last: u8) -> bool
+    ensures { λ r. ⌜ r ≡ hearing.ignoredSequence core params mark first second last ⌝ }
+{
+    if is_plain(mark, first, second) {
+        return plain_ignored(core, params, last);
+    }
+    is_marked(mark, first, second) & marked_ignored(params, last)
+}
+
+fn is_ignored(core: Core, action: Action) -> bool
+    ensures { λ r. ⌜ r ≡ hearing.isIgnored core action ⌝ }
+{
+    match action {
+        Action::ControlSequence {
+            mark,
+            first,
+            second,
+            last,
+        } => {
+            let params = core.parser.params;
+            ignored_sequence(core, params, mark, first, second, last)
+        }
+        _ => false,
+    }
+}
+
+pub fn unless_ignored(core: Core, action: Action) -> Action
+    ensures { λ r. ⌜ r ≡ hearing.unlessIgnored core action ⌝ }
+{
+    if is_ignored(core, action) {
+        return Action::Nothing;
+    }
+    action
+}

@@ -1,0 +1,81 @@
+-- What a printable word shows: its code has a sign in its set, so the case for control codes is never taken.
+use mathlib.Core.Path.{_≡_, refl, sym, ap, _∙_}
+use mathlib.Core.Bool.{Bool, true, false, not, _&&_, _||_, false≢true}
+use mathlib.Core.Logic.{_⊎_, inl, inr}
+use Prim.Native.Nat.{ℕ, _-_, _≤_, _<_}
+use native.Mathlib.Omega.{arith}
+use lib.Dec.{eqb, leb, ltb}
+use lib.ListN.{getD}
+use borrow.Author.Tests.{eq-eqb, ne-eqb, lt-ltb, le-ltb, leb-true, eqb-true, ltb-true, ltb-false}
+use Rattle.cells.specs.declared.CharSet.{CharSet}
+use Rattle.cells.specs.declared.CharSet.the-variants.{Ascii, SpecialGraphics, Supplemental, Latin1}
+use Rattle.cells.specs.Cells.{unpacked, hasSign, Printable}
+use Rattle.text.specs.Text.{lineDrawing, unshown, shownCode, graphicSign, signIn, sign}
+use Rattle.text.proofs.LineCount.{at, and-left, and-right}
+
+-- ---- codes
+
+-- a code 20 to 7E is shown as itself
+own-code : (x : ℕ) → 0x20 ≤ x → x ≤ 0x7E → shownCode x ≡ x
+own-code x l h = rw (le-ltb x 0x20 l, ne-eqb x 0x7F (omega arith))
+
+range : (low x high : ℕ) → (leb low x && leb x high) ≡ true → (low ≤ x) × (x ≤ high)
+range low x high e = (leb-true low x (and-left (leb low x) (leb x high) e), leb-true x high (and-right (leb low x) (leb x high) e))
+
+-- no line-drawing sign is "?"
+table-sign : (n : ℕ) → n < 32 → getD lineDrawing n 0 ≡ unshown → ⊥
+table-sign n h e = absurd (false≢true (ap (λ (x : ℕ). not (eqb x unshown)) (sym e) ∙ at (λ x. not (eqb x unshown)) lineDrawing refl n h))
+
+ascii-sign : (x : ℕ) → hasSign Ascii x ≡ true → eqb x 0x1A ≡ false → shownCode x ≡ x
+ascii-sign x e n = let r = range 0x20 x 0x7E (or-none (leb 0x20 x && leb x 0x7E) (rw n at e)) in own-code x (r .0) (r .1)
+  where
+    or-none : (a : Bool) → (a || false) ≡ true → a ≡ true
+    or-none true e = e
+    or-none false e = e
+
+graphic-sign : (x : ℕ) → hasSign SpecialGraphics x ≡ true → x < 0x5F → graphicSign x ≡ x
+graphic-sign x e h = let r = range 0x21 x 0x7E e in rw (lt-ltb x 0x5F h) (own-code x (omega arith) (r .1))
+
+-- "?" is the sign of code 3F, or of Supplemental
+in-set-unshown : (s : CharSet) (x : ℕ) → hasSign s x ≡ true → eqb x 0x1A ≡ false → signIn s x ≡ unshown → (s ≡ Supplemental) ⊎ (x ≡ 0x3F)
+in-set-unshown Ascii x e n u = inr (sym (ascii-sign x e n) ∙ u)
+in-set-unshown SpecialGraphics x e n u = go (ltb x 0x5F) refl
+  where
+    go : (t : Bool) → ltb x 0x5F ≡ t → (SpecialGraphics ≡ Supplemental) ⊎ (x ≡ 0x3F)
+    go true l = inr (sym (graphic-sign x e (ltb-true x 0x5F l)) ∙ u)
+    go false l =
+        let r = range 0x21 x 0x7E e in
+        let b = ltb-false x 0x5F l in
+        absurd (table-sign (x - 0x5F) (omega arith) (rw (l, ne-eqb x 0x7F (omega arith)) at u))
+in-set-unshown Supplemental x e n u = inl refl
+in-set-unshown Latin1 x e n u = absurd (omega arith)
+
+-- ---- words
+
+module _ (w : ℕ) (p : Printable w) where
+  pub sign-substitute : unpacked w .code ≡ 0x1A → sign w ≡ 0x2426
+  unfolding sign
+  sign-substitute e = rw (eq-eqb (unpacked w .code) 0x1A e)
+
+  -- the sign of its set
+  other : (eqb (unpacked w .code) 0x1A ≡ false) → sign w ≡ signIn (unpacked w .set) (unpacked w .code)
+  unfolding sign
+  other e = rw e
+
+  pub sign-ascii : unpacked w .set ≡ Ascii → (unpacked w .code ≡ 0x1A → ⊥) → sign w ≡ unpacked w .code
+  sign-ascii s n =
+      let e = ne-eqb (unpacked w .code) 0x1A n in
+      other e ∙ ap (λ (t : CharSet). signIn t (unpacked w .code)) s ∙ ascii-sign (unpacked w .code) (rw s at (p .code)) e
+
+  pub sign-graphic : unpacked w .set ≡ SpecialGraphics → unpacked w .code < 0x5F → sign w ≡ unpacked w .code
+  sign-graphic s h =
+      let g : hasSign SpecialGraphics (unpacked w .code) ≡ true = rw s at (p .code) in
+      let r = range 0x21 (unpacked w .code) 0x7E g in
+      other (ne-eqb (unpacked w .code) 0x1A (omega arith)) ∙ ap (λ (t : CharSet). signIn t (unpacked w .code)) s ∙ graphic-sign (unpacked w .code) g h
+
+  pub sign-unshown : sign w ≡ unshown → (unpacked w .set ≡ Supplemental) ⊎ (unpacked w .code ≡ 0x3F)
+  sign-unshown u = go (eqb (unpacked w .code) 0x1A) refl
+    where
+      go : (t : Bool) → eqb (unpacked w .code) 0x1A ≡ t → (unpacked w .set ≡ Supplemental) ⊎ (unpacked w .code ≡ 0x3F)
+      go true e = absurd (let a = sym (sign-substitute (eqb-true (unpacked w .code) 0x1A e)) ∙ u in omega arith)
+      go false e = in-set-unshown (unpacked w .set) (unpacked w .code) (p .code) e (sym (other e) ∙ u)
