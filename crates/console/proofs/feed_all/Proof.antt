@@ -1,40 +1,68 @@
--- Each turn keeps the lengths of what is lent, and leaves fewer turns.
+-- The loop's invariant: state and page are those of the run over the bytes before `from`. Each call reads one at least.
+use Prim.Native.Nat.{_-_}
+use native.Mathlib.Omega.{arith}
 use borrow.Author.Needs.{needs}
-use mathlib.Core.Path.{_≡_}
 use lib.ListN.{length}
-use Prim.Native.Nat.{ℕ}
+use Rattle.console.proofs.FeedLaws.{Going, going-none, turn, going-all}
 use Rattle.console.proofs.feed_all.Statement.{statement}
 use Rattle.console.proofs.feed_all.Tie as tie
 
 abbrev Inv-loop : tie.InvT-loop
-Inv-loop page₀ input reply₀ progress₀ turns₀ page reply progress turns = (length page ≡ length page₀) × (length reply ≡ length reply₀)
+Inv-loop page₀ input reply₀ newest₀ from₀ page reply newest from = Going newest₀ page₀ input reply₀ newest page reply from
 
 abbrev μ-loop : tie.MeasureT-loop
-μ-loop page₀ input reply₀ progress₀ turns₀ page reply progress turns = turns
+μ-loop page₀ input reply₀ newest₀ from₀ page reply newest from = length input - from
 
 loop-holds : tie.Need-loop-holds Inv-loop μ-loop
-loop-holds c = search needs
+loop-holds c = going-none _ _ _ _ (c .before .before .before .pre .0)
 
-feed-some-requires : tie.Need-feed-some-requires Inv-loop μ-loop
-feed-some-requires c κs = search needs
+sub-feed : tie.Need-sub-feed Inv-loop μ-loop
+sub-feed c = search needs
 
-turns-left-requires : tie.Need-turns-left-requires Inv-loop μ-loop
-turns-left-requires c κs = search needs
+part-feed-start : tie.Need-part-feed-start Inv-loop μ-loop
+part-feed-start c = search needs
+
+part-feed-end : tie.Need-part-feed-end Inv-loop μ-loop
+part-feed-end c = search needs
+
+feed-requires : tie.Need-feed-requires Inv-loop μ-loop
+feed-requires c κs = search needs
+
+add-from : tie.Need-add-from Inv-loop μ-loop
+add-from c =
+    let called = c .before .before .before .before .before .before in
+    let head = called .before .before .before .before in
+    let start = head .before .before .before .before .before in
+    let kept = called .feed .kept in
+    let t = turn (head .before .loop .inv) (start .pre .1) (head .loop-test .taken) (kept .1 .0) (kept .1 .1 .1 .0) (called .feed .ensures) in
+    omega (arith, t .next .within)
 
 loop-less : tie.Need-loop-less Inv-loop μ-loop
-loop-less c = search needs
+loop-less c =
+    let called = c .before .before .before .before .before .before in
+    let head = called .before .before .before .before in
+    let start = head .before .before .before .before .before in
+    let kept = called .feed .kept in
+    let t = turn (head .before .loop .inv) (start .pre .1) (head .loop-test .taken) (kept .1 .0) (kept .1 .1 .1 .0) (called .feed .ensures) in
+    omega (arith, t .some, t .next .within)
 
 loop-again : tie.Need-loop-again Inv-loop μ-loop
-loop-again c = search needs
+loop-again c =
+    let called = c .before .before .before .before .before .before in
+    let head = called .before .before .before .before in
+    let start = head .before .before .before .before .before in
+    let kept = called .feed .kept in
+    let t = turn (head .before .loop .inv) (start .pre .1) (head .loop-test .taken) (kept .1 .0) (kept .1 .1 .1 .0) (called .feed .ensures) in
+    t .next
 
 same-length : tie.Need-same-length Inv-loop μ-loop
-same-length c = search needs
+same-length c = c .before .loop .inv .page-long
 
 same-length-2 : tie.Need-same-length-2 Inv-loop μ-loop
-same-length-2 c = search needs
+same-length-2 c = c .before .loop .inv .reply-long
 
 returns : tie.Need-returns Inv-loop μ-loop
-returns c = search needs
+returns c = going-all (c .before .loop .inv) (c .loop-test .left)
 
 pub feed-all-spec : {M : Type 1} → statement M
 feed-all-spec =
@@ -43,8 +71,11 @@ feed-all-spec =
     Inv-loop
     μ-loop
     loop-holds
-    feed-some-requires
-    turns-left-requires
+    sub-feed
+    part-feed-start
+    part-feed-end
+    feed-requires
+    add-from
     loop-less
     loop-again
     same-length

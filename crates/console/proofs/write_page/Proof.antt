@@ -1,7 +1,8 @@
--- What was written is within the buffer, by the test on its length.
+-- The buffer holds the text of 24 rows, so all of it is written.
 use mathlib.Core.Path.{sym}
 use lib.Seq.{length-take-le}
 use borrow.Author.Needs.{needs}
+use Rattle.console.proofs.PageLaws.{page-written, page-within}
 use Rattle.console.proofs.write_page.Statement.{statement}
 use Rattle.console.proofs.write_page.Tie as tie
 
@@ -12,10 +13,19 @@ enum-known-len : tie.Need-enum-known-len
 enum-known-len c = search needs
 
 slice-reshare-prefix-write-all : tie.Need-slice-reshare-prefix-write-all
-slice-reshare-prefix-write-all c = search needs
+slice-reshare-prefix-write-all c =
+    let told = c .before in
+    let called = told .before .before .before .before in
+    let start = called .before .before .before .before in
+    page-within (start .args .page .now) (start .args .out .now) (start .pre .0) (start .pre .1) (called .write-text .ensures) _ (told .len .given .1)
 
 slice-aggregate-write-all : tie.Need-slice-aggregate-write-all
-slice-aggregate-write-all c = sym (length-take-le _ _ (c .before .if1 .taken))
+slice-aggregate-write-all c =
+    let told = c .before .before in
+    let called = told .before .before .before .before in
+    let start = called .before .before .before .before in
+    let within = page-within (start .args .page .now) (start .args .out .now) (start .pre .0) (start .pre .1) (called .write-text .ensures) in
+    sym (length-take-le _ _ (within _ (told .len .given .1)))
 
 write-all-requires : tie.Need-write-all-requires
 write-all-requires c κs = search needs
@@ -27,19 +37,19 @@ same-length : tie.Need-same-length
 same-length c = search needs
 
 returns : tie.Need-returns
-returns c = search needs
+returns c =
+    let called = c .before .before .before .before .before .before .before in
+    let start = called .before .before .before .before in
+    page-written (start .args .page .now) (start .args .out .now) (start .pre .0) (start .pre .1) (called .write-text .ensures)
 
 same-length-2 : tie.Need-same-length-2
 same-length-2 c = search needs
 
 returns-2 : tie.Need-returns-2
-returns-2 c = search needs
-
-same-length-3 : tie.Need-same-length-3
-same-length-3 c = search needs
-
-returns-3 : tie.Need-returns-3
-returns-3 c = search needs
+returns-2 c =
+    let called = c .before .before .before .before in
+    let start = called .before .before .before .before in
+    page-written (start .args .page .now) (start .args .out .now) (start .pre .0) (start .pre .1) (called .write-text .ensures)
 
 pub write-page-spec : {M : Type 1} → statement M
 write-page-spec =
@@ -54,6 +64,4 @@ write-page-spec =
     same-length
     returns
     same-length-2
-    returns-2
-    same-length-3
-    returns-3)
+    returns-2)

@@ -1,0 +1,119 @@
+-- One call reads a byte at least, and does what it read; calls one after the other do all the input; a start on 1,920 words is not refused.
+use mathlib.Core.Path.{_≡_, refl, sym, ap, ap₂, _∙_, subst}
+use mathlib.Core.List.{List, [], _∷_}
+use Prim.Native.Nat.{ℕ, _+_, _-_, _*_, _≤_, _<_, zero-le}
+use native.Mathlib.Omega.{arith}
+use lib.Dec.{lit<}
+use lib.ListN.{length, take, drop, length-drop, length-replicate}
+use lib.Seq.{take-add, take-all}
+use borrow.Author.Tests.{eq-eqb}
+use Rattle.cells.specs.Cells.{blank}
+use Rattle.vt.specs.declared.core.Core.{Core}
+use Rattle.vt.specs.Whole.{Whole}
+use Rattle.vt.specs.Fresh.{freshCore}
+use Rattle.sound.proofs.Sound.{fresh-whole}
+use Rattle.sound.proofs.ReplyLength.{sends-short}
+use Rattle.terminal.specs.declared.State.{State}
+use Rattle.terminal.specs.declared.Fed.{Fed}
+use Rattle.terminal.specs.declared.Started.{Started}
+use Rattle.terminal.specs.declared.Answer.the-variants.{Done}
+use Rattle.terminal.specs.Answers.{number}
+use Rattle.terminal.specs.Steps.{Screen, ran, readable}
+use Rattle.terminal.specs.Start.{Start, fresh, blankPage, started}
+use Rattle.terminal.specs.Feed.{Feed, readCount, fitting, screen, feedFirst, fed}
+use Rattle.terminal.specs.Ready.{Ready}
+use Rattle.terminal.proofs.StepLaws.{Sane, sane-ran, ran-append, readable-fits, readable-most}
+use Rattle.terminal.proofs.FeedLoop.{ready-sane, sane-ready}
+use Rattle.terminal.proofs.CallLaws.{state-tested, fed-run, started-as}
+use Rattle.console.specs.Feeding.{RanOver}
+
+-- ---- one call
+
+reads-one : (room : ℕ) (c : Core) (i : List ℕ) → Whole c → 11 ≤ room → 0 < length i → 1 ≤ readable room c i
+reads-one room c [] w r h = absurd (omega arith)
+reads-one room c (b ∷ bs) w r h = rw (readable-fits room c b bs (omega (arith, sends-short c b))) (omega arith)
+
+pub record OneCall (s : State) (p i : List ℕ) (r : Fed) (p' : List ℕ) : Type 0 where
+  pub some : 1 ≤ r .read
+  pub most : r .read ≤ length i
+  pub over : RanOver s p (take (r .read) i) (r .state) p'
+
+pub one-call : (s : State) (p i o : List ℕ) (r : Fed) (p' o' : List ℕ) → Ready s p → 11 ≤ length o → 0 < length i
+    → record { number = number (r .answer); result = r; page = p'; reply = o' } ≡ fed s p i o → OneCall s p i r p'
+one-call s p i o r p' o' k room more e =
+    let n : ℕ = readCount s i o in
+    let d : Screen = ran (screen s p) (take n i) in
+    let run : record { number = number (r .answer); result = r; page = p'; reply = o' } ≡ feedFirst (fitting s i o) n s p i o =
+    e ∙ fed-run s p i o (state-tested s (record { core = k .whole; changed = k .few })) (k .size) in
+    let count : r .read ≡ n = ap (λ (f : Feed). f .result .read) run in
+    let whole : screen (r .state) p' ≡ d = ap₂ screen (ap (λ (f : Feed). f .result .state) run) (ap (λ (f : Feed). f .page) run) in
+    record {
+      some = rw count (reads-one (length o) (s .core) i (k .whole) room more);
+      most = rw count (readable-most (length o) (s .core) i);
+      over = record {
+        screen-is = rw count whole;
+        ready =
+            sane-ready (s .core .rows) (r .state) p'
+            (subst (Sane (s .core .rows)) (sym whole) (sane-ran (s .core .rows) (screen s p) (take n i) (ready-sane s p k)));
+      };
+    }
+
+-- ---- one call after the other
+
+-- the bytes before a place are done
+pub record Going (s₀ : State) (p₀ input o₀ : List ℕ) (s : State) (p o : List ℕ) (from : ℕ) : Type 0 where
+  pub within : from ≤ length input
+  pub page-long : length p ≡ length p₀
+  pub reply-long : length o ≡ length o₀
+  pub over : RanOver s₀ p₀ (take from input) s p
+
+pub going-none : (s : State) (p input o : List ℕ) → Ready s p → Going s p input o s p o 0
+unfolding ran
+going-none s p input o k = record { within = zero-le; page-long = refl; reply-long = refl; over = record { screen-is = refl; ready = k } }
+
+-- a call reads some of the bytes from there on, and does them
+pub record Turn (s₀ : State) (p₀ input o₀ : List ℕ) (from : ℕ) (r : Fed) (p' o' : List ℕ) : Type 0 where
+  pub some : 1 ≤ r .read
+  pub next : Going s₀ p₀ input o₀ (r .state) p' o' (from + r .read)
+
+module _ {s₀ : State} {p₀ input o₀ : List ℕ} {s : State} {p o : List ℕ} {from : ℕ} (g : Going s₀ p₀ input o₀ s p o from) where
+  over-more : (n : ℕ) {s' : State} {p' : List ℕ} → RanOver s p (take n (drop from input)) s' p' → RanOver s₀ p₀ (take (from + n) input) s' p'
+  over-more n b = record {
+    screen-is =
+        b .screen-is ∙ ap (λ (d : Screen). ran d (take n (drop from input))) (g .over .screen-is)
+        ∙ sym (ran-append (screen s₀ p₀) (take from input) (take n (drop from input)))
+        ∙ ap (ran (screen s₀ p₀)) (sym (take-add from n input));
+    ready = b .ready;
+  }
+
+  pub turn : {r : Fed} {p' o' : List ℕ} → 11 ≤ length o₀ → from < length input → length p' ≡ length p → length o' ≡ length o
+      → record { number = number (r .answer); result = r; page = p'; reply = o' } ≡ fed s p (take (length input - from) (drop from input)) o
+      → Turn s₀ p₀ input o₀ from r p' o'
+  turn {r} {p'} {o'} room more lp lo e =
+      let rest : take (length input - from) (drop from input) ≡ drop from input =
+      take-all (length input - from) (drop from input) (omega (arith, length-drop from input)) in
+      let long : 11 ≤ length o = omega (arith, g .reply-long) in
+      let one = one-call s p (drop from input) o r p' o' (g .over .ready) long (omega (arith, length-drop from input)) (rw rest at e) in
+      record {
+        some = one .some;
+        next = record {
+          within = omega (arith, one .most, length-drop from input);
+          page-long = lp ∙ g .page-long;
+          reply-long = lo ∙ g .reply-long;
+          over = over-more (r .read) (one .over);
+        };
+      }
+
+  pub going-all : length input ≤ from → RanOver s₀ p₀ input s p
+  going-all h = subst (λ (xs : List ℕ). RanOver s₀ p₀ xs s p) (take-all from input h) (g .over)
+
+-- ---- the start
+
+fresh-ready : Ready (fresh 24) (blankPage 24)
+unfolding freshCore
+fresh-ready = record { whole = fresh-whole 24 refl; few = lit< tt; size = length-replicate (80 * 24) blank }
+
+pub start-ready : (p : List ℕ) {r : Started} {p' : List ℕ} → record { number = number (r .answer); result = r; page = p' } ≡ started 24 p
+    → length p ≡ 1920 → Ready (r .state) p'
+start-ready p e h =
+    subst (λ (x : Start). Ready (x .result .state) (x .page)) (sym (e ∙ started-as 24 p Done (rw (eq-eqb (length p) (80 * 24) h)))) fresh-ready
