@@ -23,12 +23,6 @@ read-some-requires c κs =
     let start = head .before .before .before .before in
     (head .loop .inv .3, omega (arith, start .pre .1, head .loop .inv .2))
 
-turns-left-requires : tie.Need-turns-left-requires Inv-loop μ-loop
-turns-left-requires c κs = search needs
-
-loop-less : tie.Need-loop-less Inv-loop μ-loop
-loop-less c = search needs
-
 loop-again : tie.Need-loop-again Inv-loop μ-loop
 loop-again c =
     let called = c .before .before .before .before .before .before .before in
@@ -51,15 +45,5 @@ returns c = c .before .loop .inv .3
 pub read-all-spec : {M : Type 1} → statement M
 read-all-spec =
     tie.close
-    (tie.spec
-    Inv-loop
-    μ-loop
-    loop-holds
-    read-some-requires
-    turns-left-requires
-    loop-less
-    loop-again
-    same-length
-    same-length-2
-    same-length-3
-    returns)
+    (tie.spec Inv-loop μ-loop loop-holds read-some-requires (λ c κs. search needs) (λ c. search needs) loop-again same-length same-length-2
+    same-length-3 returns)

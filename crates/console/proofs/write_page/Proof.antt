@@ -6,12 +6,6 @@ use Rattle.console.proofs.PageLaws.{page-written, page-within}
 use Rattle.console.proofs.write_page.Statement.{statement}
 use Rattle.console.proofs.write_page.Tie as tie
 
-write-text-requires : tie.Need-write-text-requires
-write-text-requires c κs = search needs
-
-enum-known-len : tie.Need-enum-known-len
-enum-known-len c = search needs
-
 slice-reshare-prefix-write-all : tie.Need-slice-reshare-prefix-write-all
 slice-reshare-prefix-write-all c =
     let told = c .before in
@@ -27,23 +21,11 @@ slice-aggregate-write-all c =
     let within = page-within (start .args .page .now) (start .args .out .now) (start .pre .0) (start .pre .1) (called .write-text .ensures) in
     sym (length-take-le _ _ (within _ (told .len .given .1)))
 
-write-all-requires : tie.Need-write-all-requires
-write-all-requires c κs = search needs
-
-enum-told : tie.Need-enum-told
-enum-told c = search needs
-
-same-length : tie.Need-same-length
-same-length c = search needs
-
 returns : tie.Need-returns
 returns c =
     let called = c .before .before .before .before .before .before .before in
     let start = called .before .before .before .before in
     page-written (start .args .page .now) (start .args .out .now) (start .pre .0) (start .pre .1) (called .write-text .ensures)
-
-same-length-2 : tie.Need-same-length-2
-same-length-2 c = search needs
 
 returns-2 : tie.Need-returns-2
 returns-2 c =
@@ -54,14 +36,5 @@ returns-2 c =
 pub write-page-spec : {M : Type 1} → statement M
 write-page-spec =
     tie.close
-    (tie.spec
-    write-text-requires
-    enum-known-len
-    slice-reshare-prefix-write-all
-    slice-aggregate-write-all
-    write-all-requires
-    enum-told
-    same-length
-    returns
-    same-length-2
-    returns-2)
+    (tie.spec (λ c κs. search needs) (λ c. search needs) slice-reshare-prefix-write-all slice-aggregate-write-all (λ c κs. search needs)
+    (λ c. search needs) (λ c. search needs) returns (λ c. search needs) returns-2)
