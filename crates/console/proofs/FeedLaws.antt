@@ -31,7 +31,7 @@ use Rattle.console.specs.Feeding.{RanOver}
 
 reads-one : (room : ℕ) (c : Core) (i : List ℕ) → Whole c → 11 ≤ room → 0 < length i → 1 ≤ readable room c i
 reads-one room c [] w r h = absurd (omega arith)
-reads-one room c (b ∷ bs) w r h = rw (readable-fits room c b bs (omega (arith, sends-short c b))) (omega arith)
+reads-one room c (b ∷ bs) w r h = rw (readable-fits room c b bs (omega (arith, sends-short c w b))) (omega arith)
 
 pub record OneCall (s : State) (p i : List ℕ) (r : Fed) (p' : List ℕ) : Type 0 where
   pub some : 1 ≤ r .read
