@@ -1,9 +1,10 @@
 /*
  * Pankholim: a VT420 console reader, proved correct in Rattle, for C and C++.
  *
- * Link target/staticlib/libpankholim.a, which `rt staticlib pankholim` writes (x86-64). The library
- * allocates nothing, keeps nothing between calls, has no global data and calls no other library, so calls on
- * different terminals may run at the same time.
+ * Link target/staticlib/libpankholim.a, which `rt staticlib pankholim` writes, for x86-64 Linux alone. The
+ * library allocates nothing, keeps nothing between calls, has no global data and calls no other library, so calls
+ * on different terminals may run at the same time. A call takes less than 2,048 bytes of stack (measured:
+ * tests/c/stack.c).
  *
  * A terminal is a record and a page, both lent by the caller at each call:
  *
@@ -35,6 +36,15 @@
 #ifdef __cplusplus
 extern "C" {
 #endif
+
+/* The version of this header. pankholim_version is that of the library, as one number. */
+#define PANKHOLIM_VERSION_MAJOR 0
+#define PANKHOLIM_VERSION_MINOR 1
+#define PANKHOLIM_VERSION_PATCH 0
+#define PANKHOLIM_VERSION \
+    (PANKHOLIM_VERSION_MAJOR * 65536 + PANKHOLIM_VERSION_MINOR * 256 + PANKHOLIM_VERSION_PATCH)
+
+uint32_t pankholim_version(void);
 
 /* A page has 24, 36 or 48 rows of 80 cells, row after row. Rows and columns count from 1. */
 #define PANKHOLIM_COLUMNS 80
@@ -125,8 +135,19 @@ uint8_t pankholim_read(const pankholim_terminal *terminal, const uint16_t *page,
                        size_t column, uint16_t *word);
 
 /*
+ * Reads the cursor.
+ *
+ * 0: *row and *column are its place on the page, from 1, also with origin mode on; *wrap is 1 if a wrap is due,
+ *    so that the next character starts a new line, else 0; *shown is 1 if the cursor is shown, else 0.
+ * 1: the record is not whole; all four are 0.
+ */
+uint8_t pankholim_cursor(const pankholim_terminal *terminal, size_t *row, size_t *column, uint8_t *wrap,
+                         uint8_t *shown);
+
+/*
  * How many bytes the text of a page takes. Any number of cells will do: those past the last whole row of 80
- * do not count, and with fewer than 80 it is 0.
+ * do not count, and with fewer than 80 it is 0. So a row alone, page + PANKHOLIM_INDEX(row, 1) with 80 cells, is
+ * a page here and for pankholim_write_text.
  */
 size_t pankholim_text_len(const uint16_t *page, size_t cells);
 

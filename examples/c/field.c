@@ -4,7 +4,7 @@
  *     field CAPTURE ROW COLUMN LENGTH
  *
  * feeds the capture to a terminal of 24 rows, in pieces and with little room for replies, and prints the
- * replies, the rows that changed, the field and the page.
+ * replies, the rows that changed, the cursor, the field and the page.
  */
 #include <stdio.h>
 #include <stdlib.h>
@@ -78,6 +78,15 @@ static void print_changed(const char *when)
     printf(" (%u in all)\n", (unsigned)count);
 }
 
+static void print_cursor(void)
+{
+    size_t row, column;
+    uint8_t wrap, shown;
+
+    pankholim_cursor(&terminal, &row, &column, &wrap, &shown);
+    printf("cursor %u,%u%s%s\n", (unsigned)row, (unsigned)column, wrap ? ", wrap due" : "", shown ? "" : ", hidden");
+}
+
 /* The field's cells, read one by one, as the text of a row of their own. */
 static void print_field(size_t row, size_t column, size_t length)
 {
@@ -131,6 +140,7 @@ int main(int argc, char **argv)
         return 1;
     print_changed("by the capture");
     print_changed("since then");
+    print_cursor();
     print_field(strtoul(argv[2], NULL, 10), strtoul(argv[3], NULL, 10), strtoul(argv[4], NULL, 10));
     return print_page() ? 0 : 1;
 }

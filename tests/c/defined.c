@@ -77,6 +77,20 @@ static uint8_t read_cell(const pankholim_terminal *terminal, size_t cells, size_
     return answer;
 }
 
+static uint8_t read_cursor(const pankholim_terminal *terminal)
+{
+    size_t row, column;
+    uint8_t wrap, shown;
+    uint8_t answer = pankholim_cursor(terminal, &row, &column, &wrap, &shown);
+
+    look_at(&answer, 1);
+    look_at(&row, sizeof row);
+    look_at(&column, sizeof column);
+    look_at(&wrap, 1);
+    look_at(&shown, 1);
+    return answer;
+}
+
 static uint8_t write_text(size_t room)
 {
     uint8_t text[PANKHOLIM_TEXT_ROOM(24)];
@@ -108,11 +122,13 @@ static int all_are_answered(void)
            && read_cell(&terminal, PANKHOLIM_CELLS(24), 1) == PANKHOLIM_DONE
            && read_cell(&terminal, PANKHOLIM_CELLS(24), 0) == PANKHOLIM_OFF_PAGE
            && read_cell(&terminal, 80, 1) == PANKHOLIM_WRONG_SIZE
+           && read_cursor(&terminal) == PANKHOLIM_DONE
            && start(&terminal, 25, PANKHOLIM_CELLS(24)) == PANKHOLIM_BROKEN
            && ask(&terminal) == PANKHOLIM_DONE
            && feed(&broken, PANKHOLIM_CELLS(24), "A", 0) == PANKHOLIM_BROKEN
            && ask(&broken) == PANKHOLIM_BROKEN
            && read_cell(&broken, PANKHOLIM_CELLS(24), 1) == PANKHOLIM_BROKEN
+           && read_cursor(&broken) == PANKHOLIM_BROKEN
            && write_text(1) == PANKHOLIM_NO_ROOM
            && write_text(PANKHOLIM_TEXT_ROOM(24)) == PANKHOLIM_DONE;
 }

@@ -175,6 +175,28 @@ static int reads(size_t cells, size_t row, size_t column, uint16_t word)
     return read_word(cells, row, column, &found) == PANKHOLIM_DONE && found == word;
 }
 
+/* The cursor; all four are set, whatever is answered. */
+static uint8_t cursor(size_t *row, size_t *column, uint8_t *wrap, uint8_t *shown)
+{
+    pankholim_terminal before = record.terminal;
+    uint8_t answer;
+
+    *row = *column = 12345;
+    *wrap = *shown = 123;
+    answer = pankholim_cursor(&record.terminal, row, column, wrap, shown);
+    CHECK(memcmp(&before, &record.terminal, sizeof before) == 0 && record_guards_are_left());
+    return answer;
+}
+
+static int cursor_is(uint8_t answer, size_t row, size_t column, uint8_t wrap, uint8_t shown)
+{
+    size_t found_row, found_column;
+    uint8_t found_wrap, found_shown;
+
+    return cursor(&found_row, &found_column, &found_wrap, &found_shown) == answer && found_row == row
+           && found_column == column && found_wrap == wrap && found_shown == shown;
+}
+
 static int replied_is(const char *expected)
 {
     return replied == strlen(expected) && memcmp(reply, expected, replied) == 0;
@@ -288,6 +310,7 @@ static void check_broken(void)
     CHECK(ask(&rows, &count) == PANKHOLIM_BROKEN && rows == 0 && count == 0);
     CHECK(read_word(1920, 1, 1, &word) == PANKHOLIM_BROKEN && word == PANKHOLIM_BLANK);
     CHECK(read_word(7, 0, 81, &word) == PANKHOLIM_BROKEN && word == PANKHOLIM_BLANK);
+    CHECK(cursor_is(PANKHOLIM_BROKEN, 0, 0, 0, 0));
     CHECK(page_is_left(0));
     CHECK(memcmp(&before, &record.terminal, sizeof before) == 0);
 }
@@ -310,6 +333,8 @@ static int check_any_record(void)
     uint64_t rows;
     uint32_t count;
     uint16_t word;
+    size_t row, column;
+    uint8_t wrap, shown, read = cursor(&row, &column, &wrap, &shown);
     uint8_t answer = feed(1920, "A\033[6n", 11);
     int refused = answer == PANKHOLIM_BROKEN || answer == PANKHOLIM_WRONG_SIZE;
 
@@ -317,6 +342,11 @@ static int check_any_record(void)
     CHECK(!refused || (page_is_left(0) && memcmp(&before, &record.terminal, sizeof before) == 0));
     CHECK(ask(&rows, &count) == (answer == PANKHOLIM_BROKEN ? PANKHOLIM_BROKEN : PANKHOLIM_DONE));
     CHECK(read_word(1920, 1, 1, &word) == (refused ? answer : PANKHOLIM_DONE));
+    CHECK(read == (answer == PANKHOLIM_BROKEN ? PANKHOLIM_BROKEN : PANKHOLIM_DONE));
+    if (read == PANKHOLIM_BROKEN)
+        CHECK(row == 0 && column == 0 && wrap == 0 && shown == 0);
+    else
+        CHECK(1 <= row && row <= 48 && 1 <= column && column <= 80 && wrap <= 1 && shown <= 1);
     return refused;
 }
 
@@ -482,6 +512,30 @@ static void test_cells(void)
     CHECK(pankholim_row_changed((uint64_t)1 << 47, 48) && !pankholim_row_changed(~(uint64_t)0, (size_t)-1));
 }
 
+/* ---- reading the cursor */
+
+static void test_cursor(void)
+{
+    start_well(24);
+    CHECK(cursor_is(PANKHOLIM_DONE, 1, 1, 0, 1));
+    CHECK(feed(1920, "\033[5;77H1.1", 0) == PANKHOLIM_DONE && cursor_is(PANKHOLIM_DONE, 5, 80, 0, 1));
+    CHECK(feed(1920, "\033[?7h0", 0) == PANKHOLIM_DONE && cursor_is(PANKHOLIM_DONE, 5, 80, 1, 1));
+    CHECK(feed(1920, "x\033[?25l", 0) == PANKHOLIM_DONE && cursor_is(PANKHOLIM_DONE, 6, 2, 0, 0));
+    /* Its place on the page, not the one that is replied with origin mode on. */
+    CHECK(feed(1920, "\033[6;10r\033[?6h\033[2;5H\033[6n", 6) == PANKHOLIM_DONE && replied_is("\033[2;5R"));
+    CHECK(cursor_is(PANKHOLIM_DONE, 7, 5, 0, 0));
+    CHECK(feed(1920, "\033[?25h\033[24;80H", 0) == PANKHOLIM_DONE && cursor_is(PANKHOLIM_DONE, 10, 80, 0, 1));
+    /* A page of the wrong length says nothing of the cursor. */
+    CHECK(feed(1921, "A", 0) == PANKHOLIM_WRONG_SIZE && cursor_is(PANKHOLIM_DONE, 10, 80, 0, 1));
+    start_well(48);
+    CHECK(feed(3840, "\033[48;80H", 0) == PANKHOLIM_DONE && cursor_is(PANKHOLIM_DONE, 48, 80, 0, 1));
+}
+
+static void test_version(void)
+{
+    CHECK(pankholim_version() == PANKHOLIM_VERSION);
+}
+
 /* ---- the page as text */
 
 static uint8_t write_text(size_t cells, size_t room, size_t *length)
@@ -512,6 +566,7 @@ static void test_text(void)
     CHECK(feed(1920, "Hi\033(0q\032", 0) == PANKHOLIM_DONE);
     CHECK(text_is("Hi\342\224\200\342\220\246\n\n", 160));
     CHECK(text_is("Hi\342\224\200\342\220\246\n", 159));
+    CHECK(text_is("Hi\342\224\200\342\220\246\n", PANKHOLIM_COLUMNS));
     CHECK(text_is("Hi\342\224\200\342\220\246\n\n\n\n\n\n\n\n\n\n\n\n\n\n\n\n\n\n\n\n\n\n\n\n", 1920));
     CHECK(pankholim_text_len(page, 0) == 0 && pankholim_text_len(page, 79) == 0);
     CHECK(write_text(0, 0, &length) == PANKHOLIM_DONE && length == 0);
@@ -672,6 +727,9 @@ static size_t feed_piece(size_t rows, const uint8_t *input, size_t length, size_
     uint8_t answer = feed_bytes(PANKHOLIM_CELLS(rows), input, length, room);
     uint64_t more;
     uint32_t count;
+    size_t row, column;
+    uint8_t wrap, shown;
+    uint16_t word;
 
     CHECK(answer == PANKHOLIM_DONE ? read_count == length : answer == PANKHOLIM_NO_ROOM);
     CHECK(read_count > 0 || room < PANKHOLIM_REPLY_ROOM);
@@ -679,6 +737,8 @@ static size_t feed_piece(size_t rows, const uint8_t *input, size_t length, size_
     seen->length += replied;
     CHECK(ask(&more, &count) == PANKHOLIM_DONE && more >> rows == 0);
     seen->changed |= more;
+    CHECK(cursor(&row, &column, &wrap, &shown) == PANKHOLIM_DONE);
+    CHECK(read_word(PANKHOLIM_CELLS(rows), row, column, &word) == PANKHOLIM_DONE && (!wrap || column == 80));
     return read_count;
 }
 
@@ -787,6 +847,8 @@ int main(int argc, char **argv)
     test_ask();
     test_read();
     test_cells();
+    test_cursor();
+    test_version();
     test_text();
     test_text_of_every_word();
     test_copies();

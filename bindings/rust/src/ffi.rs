@@ -8,6 +8,8 @@ pub struct Terminal {
 }
 
 extern "C" {
+    pub fn pankholim_version() -> u32;
+
     pub fn pankholim_start(
         terminal: *mut Terminal,
         rows: usize,
@@ -36,6 +38,14 @@ extern "C" {
         row: usize,
         column: usize,
         word: *mut u16,
+    ) -> u8;
+
+    pub fn pankholim_cursor(
+        terminal: *const Terminal,
+        row: *mut usize,
+        column: *mut usize,
+        wrap: *mut u8,
+        shown: *mut u8,
     ) -> u8;
 
     pub fn pankholim_text_len(page: *const u16, cells: usize) -> usize;

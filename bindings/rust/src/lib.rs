@@ -18,7 +18,7 @@
 //! own page, of the right length, so only places off the page are refused there; a `Record` shows every
 //! answer of the library.
 //!
-//! The crate links `libpankholim.a`, which `rt staticlib pankholim` writes (x86-64), from the folder that the
+//! The crate links `libpankholim.a`, which `rt staticlib pankholim` writes (x86-64 Linux), from the folder that the
 //! environment variable `PANKHOLIM_LIB_DIR` names, or else from `../../target/staticlib`.
 
 #![warn(missing_docs)]
@@ -30,10 +30,12 @@ mod page;
 mod record;
 mod rows;
 mod terminal;
+mod version;
 
 pub use answer::{Answer, Refusal};
 pub use cell::{Cell, CharSet, Rendition};
 pub use page::{page_text, text_len, write_text, PageSize, TextRoom, COLUMNS};
-pub use record::{Fed, Record, REPLY_ROOM};
+pub use record::{Cursor, Fed, Record, REPLY_ROOM};
 pub use rows::{RowSet, Rows};
 pub use terminal::Terminal;
+pub use version::{version, Version};

@@ -57,6 +57,19 @@ impl Fed {
     }
 }
 
+/// The cursor.
+#[derive(Clone, Copy, PartialEq, Eq, Hash, Debug)]
+pub struct Cursor {
+    /// Its row on the page, from 1, also with origin mode on.
+    pub row: usize,
+    /// Its column, from 1.
+    pub column: usize,
+    /// Is a wrap due, so that the next character starts a new line?
+    pub wrap: bool,
+    /// Is it shown?
+    pub shown: bool,
+}
+
 impl Record {
     /// How many bytes a record has.
     pub const SIZE: usize = 96;
@@ -144,6 +157,20 @@ impl Record {
             ffi::pankholim_read(&self.raw, page.as_ptr(), page.len(), row, column, &mut word)
         };
         Answer::of_call(number).map(|_| Cell::from_word(word))
+    }
+
+    /// The cursor: its place on the page, whether a wrap is due, and whether it is shown. Refused with `Broken`.
+    pub fn cursor(&self) -> Result<Cursor, Refusal> {
+        let (mut row, mut column, mut wrap, mut shown) = (0, 0, 0, 0);
+        let number = unsafe {
+            ffi::pankholim_cursor(&self.raw, &mut row, &mut column, &mut wrap, &mut shown)
+        };
+        Answer::of_call(number).map(|_| Cursor {
+            row,
+            column,
+            wrap: wrap == 1,
+            shown: shown == 1,
+        })
     }
 }
 

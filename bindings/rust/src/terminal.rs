@@ -3,7 +3,7 @@
 use crate::answer::Refusal;
 use crate::cell::Cell;
 use crate::page::{page_text, PageSize, COLUMNS};
-use crate::record::{Fed, Record};
+use crate::record::{Cursor, Fed, Record};
 use crate::rows::RowSet;
 
 /// A record and the page that goes with it.
@@ -15,6 +15,9 @@ use crate::rows::RowSet;
 /// let mut sent = Vec::new();
 /// terminal.feed_all(b"\x1b[6;10r\x1b[?6h\x1b[2;5H\x1b[6n", |reply| sent.extend_from_slice(reply));
 /// assert_eq!(sent, b"\x1b[2;5R");
+///
+/// let cursor = terminal.cursor();
+/// assert_eq!((cursor.row, cursor.column), (7, 5));
 /// ```
 #[derive(Clone, Debug)]
 pub struct Terminal {
@@ -67,6 +70,11 @@ impl Terminal {
     /// The cell at a row and column, both from 1. Refused with `OffPage` where there is none.
     pub fn cell(&self, row: usize, column: usize) -> Result<Cell, Refusal> {
         self.record.read(&self.page, row, column)
+    }
+
+    /// The cursor: its place on the page, also with origin mode on, whether a wrap is due, and whether it is shown.
+    pub fn cursor(&self) -> Cursor {
+        self.record.cursor().expect(WHOLE)
     }
 
     /// The text of `length` cells of a row, from a column on, without the spaces at its end. Refused with

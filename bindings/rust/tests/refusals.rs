@@ -93,6 +93,7 @@ fn records_that_were_not_started() {
     assert_eq!(record.ask(), Err(Refusal::Broken));
     assert_eq!(record.read(&page, 1, 1), Err(Refusal::Broken));
     assert_eq!(record.read(&[], 0, 0), Err(Refusal::Broken));
+    assert_eq!(record.cursor(), Err(Refusal::Broken));
     assert!(page.iter().all(|&word| word == 0x1234));
     assert_eq!(reply, [0xEE; 11]);
 }
@@ -110,10 +111,12 @@ fn records_of_any_bytes() {
             assert_eq!(record.to_bytes(), bytes);
             let mut page = blank;
             let mut reply = [0; 11];
+            let cursor = record.cursor();
             match record.feed(&mut page, b"A\x1b[6n", &mut reply) {
-                Ok(fed) => assert!(fed.is_done()),
+                Ok(fed) => assert!(fed.is_done() && cursor.is_ok()),
                 Err(refusal) => {
                     assert!(refusal != Refusal::OffPage);
+                    assert_eq!(cursor.is_err(), refusal == Refusal::Broken);
                     assert_eq!(record.to_bytes(), bytes);
                     assert_eq!((page, reply), (blank, [0; 11]));
                     refused += 1;
@@ -185,6 +188,20 @@ fn cells_off_the_page() {
         assert_eq!(terminal.field(1, 1, usize::MAX), Err(Refusal::OffPage));
         assert_eq!(terminal.field(0, 1, 0).unwrap(), "");
     }
+}
+
+#[test]
+fn cursors() {
+    let mut terminal = Terminal::new(PageSize::Rows24);
+    let mut at = |bytes: &[u8]| {
+        terminal.feed_all(bytes, |_reply| {});
+        let cursor = terminal.cursor();
+        (cursor.row, cursor.column, cursor.wrap, cursor.shown)
+    };
+    assert_eq!(at(b""), (1, 1, false, true));
+    assert_eq!(at(b"\x1b[?7h\x1b[5;77H1.10"), (5, 80, true, true));
+    assert_eq!(at(b"x\x1b[?25l"), (6, 2, false, false));
+    assert_eq!(at(b"\x1b[6;10r\x1b[?6h\x1b[2;5H"), (7, 5, false, false));
 }
 
 #[test]

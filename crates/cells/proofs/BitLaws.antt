@@ -2,9 +2,9 @@
 use mathlib.Core.Path.{_≡_, refl, sym, ap, ap₂, _∙_}
 use mathlib.Core.Bool.{Bool, true, false, _||_, _&&_}
 use mathlib.Core.Logic.{⊎-elim}
-use borrow.Author.Tests.{eq-eqb, ne-eqb, eqb-true, eqb-false}
+use borrow.Author.Tests.{eq-eqb, ne-eqb}
 use Prim.Native.Nat.{ℕ, zero, suc, _+_, _-_, _*_, _/_, _%_, _^_, _<_}
-use native.Mathlib.Nat.{le-refl, pow-suc, mul-comm, zero-add, add-zero, zero-mul, eq-or-lt-of-le, le-of-suc-le-suc, mul-assoc, add-comm, add-mul-div-right, mul-add-mod-self-right, mod-lt, mod-eq-of-lt, mod-one}
+use native.Mathlib.Nat.{le-refl, pow-suc, mul-comm, zero-add, add-zero, zero-mul, eq-or-lt-of-le, le-of-suc-le-suc, mul-assoc, add-comm, add-mul-div-right, mul-add-mod-self-right, mod-eq-of-lt, mod-one}
 use native.Mathlib.Omega.{arith}
 use lib.Dec.{eqb, lit<}
 use lib.Bits.{bitOr, or-block}
@@ -13,10 +13,7 @@ use lib.Arith.{digits-lt, digits-div, mod-mul}
 use lib.Pow.{pow-pos, pow-add}
 use Rattle.cells.specs.Cells.{bit}
 use Rattle.cells.specs.Sets.{bitsOf, sizeOf, hasBit, added}
-
-bit-lt : (b : Bool) → bit b < 2
-bit-lt true = lit< tt
-bit-lt false = lit< tt
+use Rattle.cells.proofs.WordLaws.{bit-lt, bit-flag}
 
 pub bits-lt : (n : ℕ) (s : ℕ → Bool) → bitsOf n s < 2 ^ n
 unfolding bitsOf
@@ -119,18 +116,8 @@ bits-mod : (n m : ℕ) → bitsOf n (hasBit m) ≡ m % 2 ^ n
 unfolding bitsOf
 bits-mod zero m = sym (mod-one m)
 bits-mod (suc n) m =
-    ap₂ (λ (a b : ℕ). a * 2 ^ n + b) (odd (m / 2 ^ n)) (bits-mod n m)
+    ap₂ (λ (a b : ℕ). a * 2 ^ n + b) (bit-flag (m / 2 ^ n)) (bits-mod n m)
     ∙ sym (mod-mul m {m = 2} {c = 2 ^ n} (lit< tt) (pow-pos n)) ∙ ap (λ (x : ℕ). m % x) (mul-comm 2 (2 ^ n) ∙ sym (pow-suc 2 n))
-  where
-    two : (x : ℕ) (t : Bool) → eqb x 1 ≡ t → x < 2 → bit t ≡ x
-    two x true e l = sym (eqb-true x 1 e)
-    two x false e l = let ne = eqb-false x 1 e in small x l ne
-      where
-        small : (x : ℕ) → x < 2 → (x ≡ 1 → ⊥) → 0 ≡ x
-        small x l ne = omega arith
-
-    odd : (x : ℕ) → bit (eqb (x % 2) 1) ≡ x % 2
-    odd x = two (x % 2) (eqb (x % 2) 1) refl (mod-lt x (lit< tt))
 
 pub bits-own : (n m : ℕ) → m < 2 ^ n → bitsOf n (hasBit m) ≡ m
 bits-own n m l = bits-mod n m ∙ mod-eq-of-lt l

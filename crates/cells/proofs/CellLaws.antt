@@ -11,12 +11,9 @@ use Rattle.cells.specs.declared.CharSet.the-variants.{Ascii, SpecialGrap
 use Rattle.cells.specs.declared.Cell.{Cell}
 use Rattle.cells.specs.Cells.{setNumber, setOf, bit, flag, renditionBits, packed, unpacked}
 use Rattle.cells.specs.Cells.{plainCell, blank, spaced, selectivelyErased, hasSign, Printable}
+use Rattle.cells.proofs.WordLaws.{bit-lt}
 
 -- ---- the digits
-
-bit-small : (b : Bool) → bit b < 2
-bit-small true = omega arith
-bit-small false = omega arith
 
 set-small : (s : CharSet) → setNumber s < 4
 set-small Ascii = omega arith
@@ -60,11 +57,11 @@ record Small (c : Cell) : Type 0 where
 small : (c : Cell) → Small c
 small c = record {
   set = set-small (c .set);
-  bold = bit-small (c .rendition .bold);
-  underline = bit-small (c .rendition .underline);
-  blink = bit-small (c .rendition .blink);
-  reverse = bit-small (c .rendition .reverse);
-  protected = bit-small (c .protected);
+  bold = bit-lt (c .rendition .bold);
+  underline = bit-lt (c .rendition .underline);
+  blink = bit-lt (c .rendition .blink);
+  reverse = bit-lt (c .rendition .reverse);
+  protected = bit-lt (c .protected);
 }
 
 pub packed-small : (c : Cell) → packed c < 2 ^ 14

@@ -14,7 +14,8 @@ use borrow.Author.Tests.{eq-eqb, ne-eqb}
 use Rattle.cells.specs.Cells.{bit}
 use Rattle.cells.specs.Rows.{row, differs}
 use Rattle.cells.specs.Sets.{bitsOf, changed}
-use Rattle.cells.proofs.Lists.{differs-self, split-eq}
+use Rattle.ground.proofs.ListLaws.{split-eq}
+use Rattle.cells.proofs.Differing.{differs-self}
 use Rattle.cells.proofs.BitLaws.{bits-ext, bits-one, bits-or, bits-none}
 
 pub changed-none : (n : ℕ) (p : List ℕ) → bitsOf n (changed p p) ≡ 0

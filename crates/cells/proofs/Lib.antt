@@ -1,14 +1,10 @@
-pub mod Lists
-pub mod Writing
 pub mod WordLaws
 pub mod CellLaws
 pub mod BitLaws
-pub mod Parts
+pub mod Differing
 pub mod RowLaws
-pub mod EditLaws
-pub mod EnteringLaws
+pub mod RowParts
+pub mod EveryLaws
 pub mod ChangeLaws
-pub mod Redoing
 pub mod Storing
-pub mod Blocks
 pub mod Beside

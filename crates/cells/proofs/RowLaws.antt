@@ -1,16 +1,13 @@
--- Laws of a page by its rows: a page is its rows, and what an edit makes of it is what it makes of each row.
+-- Laws of a page by its rows: a page is its rows, and a row its cells.
 use mathlib.Core.Path.{fun-ext, _≡_, refl, sym, ap, ap₂, _∙_}
 use mathlib.Core.List.{List, [], _∷_, _++_}
-use Prim.Native.Nat.{ℕ, zero, suc, _+_, _*_, _<_, suc-le-suc}
+use Prim.Native.Nat.{ℕ, zero, suc, _+_, _*_, _≤_, _<_, suc-le-suc}
 use native.Mathlib.Nat.{zero-lt-suc}
 use native.Mathlib.Omega.{arith}
 use lib.ListN.{length, getD, take, drop, length-append, length-take, length-drop, take-append-drop}
-use lib.Seq.{drop-nil, drop-drop, take-at, drop-at, getD-take, getD-drop, ext-getD}
-use Rattle.cells.specs.declared.Edit.{Edit}
+use lib.Seq.{length-take-le, drop-nil, drop-drop, take-at, drop-at, getD-take, getD-drop, ext-getD}
 use Rattle.cells.specs.Rows.{row, rowsOf, nth, joined, differs}
 use Rattle.cells.specs.Sets.{changed, changedIn}
-use Rattle.cells.specs.Edits.{after, applied, Within}
-use Rattle.cells.proofs.Parts.{length-after}
 
 -- ---- a page is its rows
 
@@ -63,6 +60,9 @@ changed-in n p q hp hq = λ i k. differs (rows-are n p hp i k) (rows-are n q hq 
 
 -- ---- a row by its cells
 
+pub length-row : (p : List ℕ) (k : ℕ) → 80 * k + 80 ≤ length p → length (row p k) ≡ 80
+length-row p k h = length-take-le 80 (drop (80 * k) p) (simp length-drop (omega arith))
+
 pub cell-of-row : (p : List ℕ) (k c : ℕ) → c < 80 → getD (row p k) c 0 ≡ getD p (80 * k + c) 0
 cell-of-row p k c h = getD-take 80 (drop (80 * k) p) c 0 h ∙ getD-drop (80 * k) p c 0
 
@@ -73,17 +73,3 @@ row-ext p q k l h =
     (λ c i.
     let j = simp (length-take, length-drop) at i in
     cell-of-row q k c (omega arith) ∙ h c (omega arith) (omega arith) ∙ sym (cell-of-row p k c (omega arith)))
-
--- ---- a page after an edit, by its rows
-
-pub applied-def : (n : ℕ) (e : Edit) (p : List ℕ) → length p ≡ 80 * n → applied n e p ≡ joined n (after e (row p))
-unfolding applied
-applied-def n e p h = ap (λ (f : ℕ → List ℕ). joined n (after e f)) (rows-are n p h)
-
--- a page whose rows are those after an edit is the page after the edit
-pub applied-is : (n : ℕ) (e : Edit) (p q : List ℕ) → length p ≡ 80 * n → length q ≡ 80 * n → ((k : ℕ) → k < n → row q k ≡ after e (row p) k) → q ≡ applied n e p
-applied-is n e p q hp h rows = sym (joined-rows n q h) ∙ joined-ext n (row q) (after e (row p)) rows ∙ sym (applied-def n e p hp)
-
--- and the page after an edit has those rows
-pub applied-row : (n : ℕ) (e : Edit) (p : List ℕ) → length p ≡ 80 * n → Within n e → (k : ℕ) → k < n → row (applied n e p) k ≡ after e (row p) k
-applied-row n e p hp w k l = ap (λ (q : List ℕ). row q k) (applied-def n e p hp) ∙ row-joined n (after e (row p)) (length-after n e p hp w) k l

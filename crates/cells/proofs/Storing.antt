@@ -1,26 +1,17 @@
 -- Loops that store a list into a part of the page, one word a turn, upward or downward: each word is stored once and compared with what stood there.
 use mathlib.Core.Path.{_≡_, refl, sym, ap, ap₂, _∙_}
-use mathlib.Core.Bool.{Bool, false, not, _||_, or-assoc, or-comm}
-use mathlib.Core.List.{List, [], _∷_}
+use mathlib.Core.Bool.{Bool, false, not, _||_}
+use mathlib.Core.List.{List}
 use mathlib.Core.Logic.{_⊎_, inl, inr, ⊎-elim}
-use Prim.Native.Nat.{ℕ, zero, suc, _+_, _-_, _≤_, _<_}
+use Prim.Native.Nat.{ℕ, _+_, _-_, _≤_, _<_}
 use native.Mathlib.Omega.{arith}
 use lib.Dec.{eqb}
 use lib.ListN.{length, getD, set, length-set}
 use lib.Seq.{paste, length-paste, ext-getD, getD-set-same, getD-set-other}
-use borrow.Author.Tests.{eq-eqb}
 use Rattle.cells.specs.Rows.{differs}
-use Rattle.cells.specs.Writes.{Pasted}
-use Rattle.cells.proofs.Lists.{split-lt, split-eq, paste-inside, paste-outside, differs-self}
-use Rattle.cells.proofs.Redoing.{differs-paste}
-
--- a list differs from another with one more word stored if it did before, or that word is another
-differs-set : (d x : List ℕ) (i w : ℕ) → length x ≡ length d → i < length d → getD x i 0 ≡ getD d i 0
-    → differs d (set x i w) ≡ differs d x || not (eqb (getD d i 0) w)
-differs-set [] x i w l h e = absurd (omega arith)
-differs-set (a ∷ d) [] i w l h e = absurd (omega arith)
-differs-set (a ∷ d) (b ∷ x) zero w l h e = rw (eq-eqb a b (sym e)) (or-comm (not (eqb a w)) (differs d x))
-differs-set (a ∷ d) (b ∷ x) (suc i) w l h e = rw (differs-set d x i w (omega arith) (omega arith) e) (sym (or-assoc (not (eqb a b)) (differs d x) (not (eqb (getD d i 0) w))))
+use Rattle.cells.specs.Segments.{Pasted}
+use Rattle.ground.proofs.ListLaws.{split-lt, split-eq, paste-inside, paste-outside}
+use Rattle.cells.proofs.Differing.{differs-self, differs-set, differs-paste}
 
 -- d with the words of s from lo to hi stored at place `at` on, and whether one of them was another
 pub record Stored (d : List ℕ) (at : ℕ) (s : List ℕ) (lo hi : ℕ) (page : List ℕ) (flag : Bool) : Type 0 where

@@ -9,6 +9,10 @@ use lib.Arith.{mod-mul}
 use borrow.Author.Tests.{eqb-true, eqb-false}
 use Rattle.cells.specs.Cells.{bit, flag, packed, unpacked, spaced}
 
+pub bit-lt : (b : Bool) → bit b < 2
+bit-lt true = lit< tt
+bit-lt false = lit< tt
+
 pub bit-flag : (n : ℕ) → bit (flag n) ≡ n % 2
 bit-flag n = go (eqb (n % 2) 1) refl
   where

@@ -1,5 +1,4 @@
 pub mod Cells
 pub mod Rows
 pub mod Sets
-pub mod Edits
-pub mod Writes
+pub mod Segments

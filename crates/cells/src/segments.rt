@@ -1,12 +1,13 @@
 // Segments: runs of words in a lent slice. Each function writes each word of its segment once, compares
 // it with the one that stood there, and says whether some word changed.
+use crate::COLUMNS;
 use crate::words::selectively_erase;
 ghost use mathlib.Core.List.{map};
 ghost use mathlib.Core.Logic.{_⊎_};
 ghost use Prim.Native.Nat.{_+_, _≤_};
 ghost use lib.ListN.{length, drop, replicate};
 ghost use Rattle.cells.specs.Cells.{selectivelyErased};
-ghost use Rattle.cells.specs.Writes.{Pasted};
+ghost use Rattle.cells.specs.Segments.{Pasted};
 
 // Copies `len` words from `from` to `to`, the first word first.
 fn copy_upward(page: &mut [u16], to: usize, from: usize, len: usize) -> bool
@@ -46,8 +47,8 @@ pub fn copy_columns(page: &mut [u16], to: usize, from: usize, len: usize) -> boo
     requires { ⌜ (from + len ≤ length (now page)) × (to + len ≤ length (now page)) × ((to ≤ from) ⊎ (from + len ≤ to)) ⌝ }
     ensures { λ r. ⌜ Pasted (now (page .entry)) (now (page .exit)) to (drop from (now (page .entry))) len r ⌝ }
 {
-    if len == 80 {
-        copy_upward(page, to, from, 80)
+    if len == COLUMNS {
+        copy_upward(page, to, from, COLUMNS)
     } else {
         copy_upward(page, to, from, len)
     }

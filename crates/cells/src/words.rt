@@ -1,4 +1,5 @@
 // Cell words: a cell as 16 bits. Any word can be taken apart; a word that is made has its two unused bits zero.
+use crate::BLANK;
 use crate::Cell;
 use crate::CharSet;
 use crate::Rendition;
@@ -88,7 +89,7 @@ pub fn unpack(word: u16) -> Cell
 pub fn space(word: u16) -> u16
     ensures { λ r. ⌜ r ≡ spaced word ⌝ }
 {
-    32 + 512 * (word / 512 % 32)
+    BLANK + 512 * (word / 512 % 32)
 }
 
 // What selective erase makes of a word: a protected cell is kept.

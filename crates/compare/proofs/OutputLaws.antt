@@ -8,9 +8,9 @@ use native.Mathlib.Numerals.{add-one}
 use native.Mathlib.Omega.{arith}
 use lib.ListN.{length, getD, drop, length-append}
 use lib.Seq.{sets, length-sets, set-out, drop-cons}
-use Rattle.cells.proofs.Lists.{split-lt}
-use Rattle.cells.specs.Writes.{Wrote}
-use Rattle.cells.proofs.Writing.{wrote-more}
+use Rattle.ground.proofs.ListLaws.{split-lt}
+use Rattle.ground.specs.Writes.{Wrote}
+use Rattle.ground.proofs.WriteLaws.{wrote-more}
 use Rattle.compare.specs.Output.{PutAt, lowFirst, wordBytes}
 
 -- ---- two runs in a row

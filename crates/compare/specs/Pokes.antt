@@ -2,7 +2,6 @@
 use mathlib.Core.Bool.{Bool, cond, not}
 use mathlib.Core.List.{List, [], _∷_}
 use Prim.Native.Nat.{ℕ, _+_, _*_, _%_, _^_}
-use lib.Bits.{bitOr}
 use lib.Dec.{eqb}
 use lib.ListN.{getD, drop}
 use Rattle.device.specs.declared.cursor.Cursor.{Cursor}
@@ -12,7 +11,8 @@ use Rattle.vt.specs.declared.core.Core.{Core}
 use Rattle.vt.specs.declared.core.Modes.{Modes}
 use Rattle.vt.specs.declared.core.Saved.{Saved}
 use Rattle.vt.specs.Effects.{withCursor, withMargins, withModes, withSaved, withParser}
-use Rattle.terminal.specs.declared.State.{State}
+use Rattle.steps.specs.declared.State.{State}
+use Rattle.steps.specs.Steps.{noted}
 
 -- ---- B
 
@@ -61,8 +61,8 @@ pokedCore c field n =
 unfoldable pub poked : State → ℕ → ℕ → State
 poked s field n =
     cond (eqb field 12)
-    (record { core = s .core; changed = bitOr (s .changed) (2 ^ ((n + 63) % 64)) })
-    (record { core = pokedCore (s .core) field (n % 256); changed = s .changed })
+    (record { core = s .core; tracked = noted (s .tracked) (2 ^ ((n + 63) % 64)) })
+    (record { core = pokedCore (s .core) field (n % 256); tracked = s .tracked })
 
 -- ---- Q
 
@@ -83,4 +83,4 @@ parserOf bs = record {
 }
 
 abbrev pub parserPoked : State → List ℕ → State
-parserPoked s bs = record { core = withParser (s .core) (parserOf bs); changed = s .changed }
+parserPoked s bs = record { core = withParser (s .core) (parserOf bs); tracked = s .tracked }

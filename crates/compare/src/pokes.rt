@@ -3,7 +3,7 @@ use cells::marks::row_bit;
 use parser::params::Params;
 use parser::parser::Parser;
 use parser::phases::phase_of;
-use terminal::State;
+use steps::State;
 use vt::core::Core;
 ghost use mathlib.Core.Path.{_≡_};
 ghost use Prim.Native.Nat.{_+_, _*_};
@@ -76,16 +76,17 @@ pub fn poke(state: State, field: u16, n: u16) -> State
     ensures { λ r. ⌜ r ≡ poking.poked state field n ⌝ }
 {
     let core = state.core;
+    let tracked = state.tracked;
     if field == 12 {
         let row = (n as u32 + 63) % 64;
         return State {
             core,
-            changed: state.changed | row_bit(row as u8, true),
+            tracked: tracked.note(row_bit(row as u8, true)),
         };
     }
     State {
         core: poke_core(core, field, (n % 256) as u8),
-        changed: state.changed,
+        tracked,
     }
 }
 
@@ -132,8 +133,6 @@ pub fn poke_parser(state: State, bytes: [u8; 37]) -> State
 {
     let mut core = state.core;
     core.parser = parser_of(bytes);
-    State {
-        core,
-        changed: state.changed,
-    }
+    let tracked = state.tracked;
+    State { core, tracked }
 }

@@ -11,19 +11,19 @@ use Rattle.cells.specs.Cells.{blank}
 use Rattle.vt.specs.declared.core.Core.{Core}
 use Rattle.vt.specs.Whole.{Whole}
 use Rattle.vt.specs.Fresh.{freshCore}
-use Rattle.sound.proofs.Sound.{fresh-whole}
-use Rattle.sound.proofs.ReplyLength.{sends-short}
-use Rattle.terminal.specs.declared.State.{State}
+use Rattle.wholeness.proofs.Wholeness.{sized-rows, fresh-whole}
+use Rattle.wholeness.proofs.ReplyLength.{sends-short}
+use Rattle.steps.specs.declared.State.{State}
 use Rattle.terminal.specs.declared.Fed.{Fed}
 use Rattle.terminal.specs.declared.Started.{Started}
 use Rattle.terminal.specs.declared.Answer.the-variants.{Done}
 use Rattle.terminal.specs.Answers.{number}
-use Rattle.terminal.specs.Steps.{Screen, ran, readable}
+use Rattle.steps.specs.Steps.{Screen, ran, readable, screen}
 use Rattle.terminal.specs.Start.{Start, fresh, blankPage, started}
-use Rattle.terminal.specs.Feed.{Feed, readCount, fitting, screen, feedFirst, fed}
-use Rattle.terminal.specs.Ready.{Ready}
-use Rattle.terminal.proofs.StepLaws.{Sane, sane-ran, ran-append, readable-fits, readable-most}
-use Rattle.terminal.proofs.FeedLoop.{ready-sane, sane-ready}
+use Rattle.feeding.specs.Bytes.{readCount}
+use Rattle.terminal.specs.Feed.{Feed, fitting, feedFirst, fed}
+use Rattle.steps.specs.Ready.{Ready}
+use Rattle.steps.proofs.StepLaws.{ReadyAt, ready-ran, ran-append, readable-fits, readable-most}
 use Rattle.terminal.proofs.CallLaws.{state-tested, fed-run, started-as}
 use Rattle.console.specs.Feeding.{RanOver}
 
@@ -44,17 +44,15 @@ one-call s p i o r p' o' k room more e =
     let n : ℕ = readCount s i o in
     let d : Screen = ran (screen s p) (take n i) in
     let run : record { number = number (r .answer); result = r; page = p'; reply = o' } ≡ feedFirst (fitting s i o) n s p i o =
-    e ∙ fed-run s p i o (state-tested s (record { core = k .whole; changed = k .few })) (k .size) in
+    e ∙ fed-run s p i o (state-tested s (k .whole)) (k .size) in
     let count : r .read ≡ n = ap (λ (f : Feed). f .result .read) run in
     let whole : screen (r .state) p' ≡ d = ap₂ screen (ap (λ (f : Feed). f .result .state) run) (ap (λ (f : Feed). f .page) run) in
     record {
-      some = rw count (reads-one (length o) (s .core) i (k .whole) room more);
+      some = rw count (reads-one (length o) (s .core) i (k .whole .core) room more);
       most = rw count (readable-most (length o) (s .core) i);
       over = record {
         screen-is = rw count whole;
-        ready =
-            sane-ready (s .core .rows) (r .state) p'
-            (subst (Sane (s .core .rows)) (sym whole) (sane-ran (s .core .rows) (screen s p) (take n i) (ready-sane s p k)));
+        ready = subst ReadyAt (sym whole) (ready-ran (screen s p) (take n i) k);
       };
     }
 
@@ -111,7 +109,10 @@ module _ {s₀ : State} {p₀ input o₀ : List ℕ} {s : State} {p o : List ℕ
 
 fresh-ready : Ready (fresh 24) (blankPage 24)
 unfolding freshCore
-fresh-ready = record { whole = fresh-whole 24 refl; few = lit< tt; size = length-replicate (80 * 24) blank }
+fresh-ready = record {
+  whole = record { core = fresh-whole 24 (sized-rows 24 refl); size = refl; changed = lit< tt };
+  size = length-replicate (80 * 24) blank;
+}
 
 pub start-ready : (p : List ℕ) {r : Started} {p' : List ℕ} → record { number = number (r .answer); result = r; page = p' } ≡ started 24 p
     → length p ≡ 1920 → Ready (r .state) p'

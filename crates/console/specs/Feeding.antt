@@ -2,10 +2,9 @@
 use mathlib.Core.List.{List}
 use mathlib.Core.Path.{_≡_}
 use Prim.Native.Nat.{ℕ}
-use Rattle.terminal.specs.declared.State.{State}
-use Rattle.terminal.specs.Steps.{ran}
-use Rattle.terminal.specs.Feed.{screen}
-use Rattle.terminal.specs.Ready.{Ready}
+use Rattle.steps.specs.declared.State.{State}
+use Rattle.steps.specs.Steps.{ran, screen}
+use Rattle.steps.specs.Ready.{Ready}
 
 -- state and page are those of the run over the input, and whole again
 pub record RanOver (s : State) (p input : List ℕ) (s' : State) (p' : List ℕ) : Type 0 where

@@ -4,7 +4,7 @@ use libc::EINTR;
 use libc::STDERR_FILENO;
 use libc::STDIN_FILENO;
 use libc::STDOUT_FILENO;
-use terminal::State;
+use steps::State;
 use terminal::calls::feed;
 use terminal::calls::start;
 use text::Written;
@@ -12,7 +12,7 @@ ghost use mathlib.Core.Path.{_≡_};
 ghost use Prim.Native.Nat.{_<_, _≤_};
 ghost use lib.ListN.{length};
 ghost use lib.Seq.{sets};
-ghost use Rattle.terminal.specs.Ready.{Ready};
+ghost use Rattle.steps.specs.Ready.{Ready};
 ghost use Rattle.text.specs.Text.{textOf};
 ghost use Rattle.console.specs.Feeding.{RanOver};
 
@@ -111,10 +111,10 @@ fn write_page(page: &[u16], out: &mut [u8])
     ensures { λ _. ⌜ now (out .exit) ≡ sets (now (out .entry)) 0 (textOf 24 (now (page .entry))) ⌝ }
 {
     match text::write_text(page, out) {
-        Written::Whole { len } => {
+        Written::Complete { len } => {
             io::write_all(STDOUT_FILENO, &out[..len]);
         }
-        Written::NoRoom => {}
+        Written::TooSmall => {}
     }
 }
 

@@ -5,46 +5,44 @@ use mathlib.Core.List.{List, [], _∷_}
 use Prim.Native.Nat.{ℕ, _+_, _-_, _*_, min, max}
 use lib.Dec.{eqb, leb, ltb}
 use Rattle.cells.specs.declared.Rendition.{Rendition}
-use Rattle.cells.specs.declared.Edit.{Edit}
-use Rattle.cells.specs.declared.Edit.the-variants.{InsertCells, DeleteCells, ScrollUp, ScrollDown, Fill, SelectiveErase}
+use Rattle.page.specs.declared.Edit.{Edit}
+use Rattle.page.specs.declared.Edit.the-variants.{InsertCells, DeleteCells, ScrollUp, ScrollDown, Fill, SelectiveErase}
 use Rattle.cells.specs.Cells.{plain, blank}
 use Rattle.parser.specs.declared.params.Params.{Params}
-use Rattle.vt.specs.declared.core.Modes.{Modes}
 use Rattle.vt.specs.declared.core.Margins.{Margins}
 use Rattle.vt.specs.declared.core.Core.{Core}
 use Rattle.vt.specs.declared.core.Decision.{Decision}
 use Rattle.parser.specs.Params.{param, paramN, paramList}
-use Rattle.parser.specs.Families.{isPlain, isMarked, isProtection, isSoftReset}
+use Rattle.parser.specs.Families.{isPlain, isPrivate, isProtection, isSoftReset}
 use Rattle.device.specs.Tabs.{withoutTab, noTabs}
 use Rattle.device.specs.Cursor.{place, up, down, left, right, toColumn, offset}
 use Rattle.vt.specs.Fresh.{freshCore}
-use Rattle.vt.specs.Escapes.{withOrigin}
-use Rattle.vt.specs.Effects.{withCursor, withMargins, withTabs, withModes, withRendition, withProtected, only, quiet}
+use Rattle.vt.specs.Geometry.{leftStop, rightStop, topStop, bottomStop, firstRow, lastRow, home}
+use Rattle.vt.specs.Modes.{withInsert, withNewline, withOrigin, withAutowrap, withShown}
+use Rattle.vt.specs.Effects.{withCursor, withMargins, withTabs, withModes, withRendition, withProtected, oneEdit, unedited}
 
 -- ---- moving the cursor
 
--- A (CUU): up, to T if not already above it, else to the page's edge
-abbrev pub cursorUp : Core → Params → Decision
-cursorUp c q = quiet (withCursor c (up (c .cursor) (paramN q) (cond (leb (c .margins .top) (c .cursor .row)) (c .margins .top) 1)))
+-- A (CUU), B (CUD), C (CUF), D (CUB): n rows or columns, to the stop
+abbrev pub cursorUp : Core → ℕ → Decision
+cursorUp c n = unedited (withCursor c (up (c .cursor) n (topStop c)))
 
--- B (CUD)
-abbrev pub cursorDown : Core → Params → Decision
-cursorDown c q = quiet (withCursor c (down (c .cursor) (paramN q) (cond (leb (c .cursor .row) (c .margins .bottom)) (c .margins .bottom) (c .rows))))
+abbrev pub cursorDown : Core → ℕ → Decision
+cursorDown c n = unedited (withCursor c (down (c .cursor) n (bottomStop c)))
 
--- C (CUF), D (CUB)
-abbrev pub cursorRight : Core → Params → Decision
-cursorRight c q = quiet (withCursor c (right (c .cursor) (paramN q) 80))
+abbrev pub cursorRight : Core → ℕ → Decision
+cursorRight c n = unedited (withCursor c (right (c .cursor) n (rightStop c)))
 
-abbrev pub cursorLeft : Core → Params → Decision
-cursorLeft c q = quiet (withCursor c (left (c .cursor) (paramN q) 1))
+abbrev pub cursorLeft : Core → ℕ → Decision
+cursorLeft c n = unedited (withCursor c (left (c .cursor) n (leftStop c)))
 
 -- the row of a position: held to the page; with origin on row 1 is T, held to B
 abbrev pub rowAt : Core → ℕ → ℕ
-rowAt c r = cond (c .modes .origin) (min (c .margins .top + r - 1) (c .margins .bottom)) (min r (c .rows))
+rowAt c r = min (firstRow c + r - 1) (lastRow c)
 
 -- H (CUP), f (HVP): row and column, 0 as 1
-abbrev pub cursorPosition : Core → Params → Decision
-cursorPosition c q = quiet (withCursor c (place (rowAt c (paramN q)) (min (max 1 (param q 1)) 80)))
+abbrev pub cursorPosition : Core → ℕ → ℕ → Decision
+cursorPosition c r k = unedited (withCursor c (place (rowAt c (max 1 r)) (min (max 1 k) (rightStop c))))
 
 -- ---- erasing
 
@@ -52,7 +50,7 @@ cursorPosition c q = quiet (withCursor c (place (rowAt c (paramN q)) (min (max 1
 abbrev pub erased : Core → ℕ → ℕ → ℕ → (ℕ → ℕ → Edit) → Decision
 erased c s base end edit =
     let at = offset (c .cursor) in
-    only c (edit (cond (eqb s 0) at base) (cond (eqb s 1) (at + 1) end))
+    oneEdit c (edit (cond (eqb s 0) at base) (cond (eqb s 1) (at + 1) end))
 
 abbrev pub toBlank : ℕ → ℕ → Edit
 toBlank a z = Fill a z blank
@@ -71,35 +69,37 @@ abbrev pub inRow : Core → ℕ → (ℕ → ℕ → Edit) → Decision
 inRow c s edit = erased c s (rowStart c) (rowStart c + 80) edit
 
 -- X (ECH): n cells in the row
-abbrev pub eraseCharacters : Core → Params → Decision
-eraseCharacters c q =
+abbrev pub eraseCharacters : Core → ℕ → Decision
+eraseCharacters c n =
     let at = offset (c .cursor) in
-    only c (Fill at (min (at + paramN q) (rowStart c + 80)) blank)
+    oneEdit c (Fill at (min (at + n) (rowStart c + 80)) blank)
 
 -- ---- inserting and deleting
 
--- how many rows there are from the cursor's to B, and how many cells from the cursor's to the row's end
+-- how many rows there are from the cursor's to B, and how many cells from the cursor's to the right stop
 abbrev pub rowsBelow : Core → ℕ
 rowsBelow c = c .margins .bottom - (c .cursor .row - 1)
 
 abbrev pub cellsRight : Core → ℕ
-cellsRight c = 80 - (c .cursor .column - 1)
+cellsRight c = rightStop c - (c .cursor .column - 1)
 
 -- L (IL), M (DL): n rows, and column 1
-abbrev pub insertLines : Core → Params → Decision
-insertLines c q =
-    only (withCursor c (toColumn (c .cursor) 1)) (ScrollDown (c .cursor .row - 1) (c .margins .bottom) 0 80 (min (paramN q) (rowsBelow c)))
+abbrev pub insertLines : Core → ℕ → Decision
+insertLines c n =
+    oneEdit (withCursor c (toColumn (c .cursor) (leftStop c)))
+    (ScrollDown (c .cursor .row - 1) (c .margins .bottom) (leftStop c - 1) (rightStop c) (min n (rowsBelow c)))
 
-abbrev pub deleteLines : Core → Params → Decision
-deleteLines c q =
-    only (withCursor c (toColumn (c .cursor) 1)) (ScrollUp (c .cursor .row - 1) (c .margins .bottom) 0 80 (min (paramN q) (rowsBelow c)))
+abbrev pub deleteLines : Core → ℕ → Decision
+deleteLines c n =
+    oneEdit (withCursor c (toColumn (c .cursor) (leftStop c)))
+    (ScrollUp (c .cursor .row - 1) (c .margins .bottom) (leftStop c - 1) (rightStop c) (min n (rowsBelow c)))
 
 -- @ (ICH), P (DCH): n cells
-abbrev pub insertCharacters : Core → Params → Decision
-insertCharacters c q = only c (InsertCells (c .cursor .row - 1) (c .cursor .column - 1) 80 (min (paramN q) (cellsRight c)) blank)
+abbrev pub insertCharacters : Core → ℕ → Decision
+insertCharacters c n = oneEdit c (InsertCells (c .cursor .row - 1) (c .cursor .column - 1) (rightStop c) (min n (cellsRight c)) blank)
 
-abbrev pub deleteCharacters : Core → Params → Decision
-deleteCharacters c q = only c (DeleteCells (c .cursor .row - 1) (c .cursor .column - 1) 80 (min (paramN q) (cellsRight c)))
+abbrev pub deleteCharacters : Core → ℕ → Decision
+deleteCharacters c n = oneEdit c (DeleteCells (c .cursor .row - 1) (c .cursor .column - 1) (rightStop c) (min n (cellsRight c)))
 
 -- ---- tabs, modes, rendition, protection: h, l and m take all parameters in order
 
@@ -110,30 +110,18 @@ folded f a (x ∷ xs) = folded f (f a x) xs
 -- g (TBC): 0 the tab here, 3 all
 abbrev pub clearTabs : Core → Params → Decision
 clearTabs c q =
-    cond (eqb (param q 0) 0) (quiet (withTabs c (withoutTab (c .tabs) (c .cursor .column))))
-    (cond (eqb (param q 0) 3) (quiet (withTabs c noTabs)) (quiet c))
+    cond (eqb (param q 0) 0) (unedited (withTabs c (withoutTab (c .tabs) (c .cursor .column))))
+    (cond (eqb (param q 0) 3) (unedited (withTabs c noTabs)) (unedited c))
 
-abbrev pub withInsert : Modes → Bool → Modes
-withInsert m on = record { insert = on; newline = m .newline; origin = m .origin; autowrap = m .autowrap; shown = m .shown; eightbit = m .eightbit }
-
-abbrev pub withNewline : Modes → Bool → Modes
-withNewline m on = record { insert = m .insert; newline = on; origin = m .origin; autowrap = m .autowrap; shown = m .shown; eightbit = m .eightbit }
-
-abbrev pub withAutowrap : Modes → Bool → Modes
-withAutowrap m on = record { insert = m .insert; newline = m .newline; origin = m .origin; autowrap = on; shown = m .shown; eightbit = m .eightbit }
-
-abbrev pub withShown : Modes → Bool → Modes
-withShown m on = record { insert = m .insert; newline = m .newline; origin = m .origin; autowrap = m .autowrap; shown = on; eightbit = m .eightbit }
-
--- h (SM), l (RM): 4 insert (IRM), 20 newline (LNM)
+-- 4 insert (IRM), 20 newline (LNM)
 abbrev pub ansiMode : Bool → Core → ℕ → Core
 ansiMode on c v =
     cond (eqb v 4) (withModes c (withInsert (c .modes) on))
     (cond (eqb v 20) (withModes c (withNewline (c .modes) on)) c)
 
--- ?6 (DECOM): the cursor goes to row 1, or T if now on, column 1
+-- ?6 (DECOM): cursor home, with origin as it now is
 abbrev pub originMode : Bool → Core → Core
-originMode on c = withCursor (withModes c (withOrigin (c .modes) on)) (place (cond on (c .margins .top) 1) 1)
+originMode on c = let d = withModes c (withOrigin (c .modes) on) in withCursor d (home d)
 
 -- ?6 origin, ?7 autowrap (DECAWM), ?25 cursor shown (DECTCEM)
 abbrev pub decMode : Bool → Core → ℕ → Core
@@ -142,11 +130,12 @@ decMode on c v =
     (cond (eqb v 7) (withModes c (withAutowrap (c .modes) on))
     (cond (eqb v 25) (withModes c (withShown (c .modes) on)) c))
 
-abbrev pub ansiModes : Bool → Core → Params → Decision
-ansiModes on c q = quiet (folded (ansiMode on) c (paramList q))
+-- one value of h (SM), l (RM); private with ?
+abbrev pub modeSet : Bool → Bool → Core → ℕ → Core
+modeSet private on c v = cond private (decMode on c v) (ansiMode on c v)
 
-abbrev pub decModes : Bool → Core → Params → Decision
-decModes on c q = quiet (folded (decMode on) c (paramList q))
+abbrev pub modesSet : Bool → Bool → Core → Params → Decision
+modesSet private on c q = unedited (folded (modeSet private on) c (paramList q))
 
 abbrev pub withBold : Rendition → Bool → Rendition
 withBold r on = record { bold = on; underline = r .underline; blink = r .blink; reverse = r .reverse }
@@ -174,13 +163,13 @@ rendered r v =
     (cond (eqb v 27) (withReverse r false) r))))))))
 
 abbrev pub selectRendition : Core → Params → Decision
-selectRendition c q = quiet (withRendition c (folded rendered (c .rendition) (paramList q)))
+selectRendition c q = unedited (withRendition c (folded rendered (c .rendition) (paramList q)))
 
 -- " q (DECSCA): 1 protects, 0 and 2 don't
 abbrev pub selectProtection : Core → Params → Decision
 selectProtection c q =
-    cond (eqb (param q 0) 1) (quiet (withProtected c true))
-    (cond (leb (param q 0) 2) (quiet (withProtected c false)) (quiet c))
+    cond (eqb (param q 0) 1) (unedited (withProtected c true))
+    (cond (leb (param q 0) 2) (unedited (withProtected c false)) (unedited c))
 
 -- ---- margins and soft reset
 
@@ -192,10 +181,9 @@ askedMargins c q = record { top = paramN q; bottom = cond (eqb (param q 1) 0 || 
 abbrev pub marginsTaken : Core → Params → Bool
 marginsTaken c q = ltb (askedMargins c q .top) (askedMargins c q .bottom)
 
--- then cursor home: row 1, or T with origin on
+-- then cursor home, with the new margins
 abbrev pub setMargins : Core → Params → Decision
-setMargins c q =
-    quiet (withCursor (withMargins c (askedMargins c q)) (place (cond (c .modes .origin) (askedMargins c q .top) 1) 1))
+setMargins c q = let d = withMargins c (askedMargins c q) in unedited (withCursor d (home d))
 
 -- ! p (DECSTR): these fields from fresh; cursor, tabs, newline and reply width stay
 unfoldable pub softReset : Core → Core
@@ -217,42 +205,43 @@ softReset c =
 
 -- ---- the sequences
 
--- with no mark and no intermediate
+-- with no mark and no intermediate: ICH, CUU, CUD, CUF, CUB, CUP, ED, EL, IL, DL, DCH, ECH, HVP, TBC, SM, RM, SGR, DECSTBM
 abbrev pub plainSequence : Core → Params → ℕ → Decision
 plainSequence c q last =
-    cond (eqb last 0x40) (insertCharacters c q)
-    (cond (eqb last 0x41) (cursorUp c q)
-    (cond (eqb last 0x42) (cursorDown c q)
-    (cond (eqb last 0x43) (cursorRight c q)
-    (cond (eqb last 0x44) (cursorLeft c q)
-    (cond (eqb last 0x48) (cursorPosition c q)
+    cond (eqb last 0x40) (insertCharacters c (paramN q))
+    (cond (eqb last 0x41) (cursorUp c (paramN q))
+    (cond (eqb last 0x42) (cursorDown c (paramN q))
+    (cond (eqb last 0x43) (cursorRight c (paramN q))
+    (cond (eqb last 0x44) (cursorLeft c (paramN q))
+    (cond (eqb last 0x48) (cursorPosition c (param q 0) (param q 1))
     (cond (eqb last 0x4A) (inPage c (param q 0) toBlank)
     (cond (eqb last 0x4B) (inRow c (param q 0) toBlank)
-    (cond (eqb last 0x4C) (insertLines c q)
-    (cond (eqb last 0x4D) (deleteLines c q)
-    (cond (eqb last 0x50) (deleteCharacters c q)
-    (cond (eqb last 0x58) (eraseCharacters c q)
-    (cond (eqb last 0x66) (cursorPosition c q)
+    (cond (eqb last 0x4C) (insertLines c (paramN q))
+    (cond (eqb last 0x4D) (deleteLines c (paramN q))
+    (cond (eqb last 0x50) (deleteCharacters c (paramN q))
+    (cond (eqb last 0x58) (eraseCharacters c (paramN q))
+    (cond (eqb last 0x66) (cursorPosition c (param q 0) (param q 1))
     (cond (eqb last 0x67) (clearTabs c q)
-    (cond (eqb last 0x68) (ansiModes true c q)
-    (cond (eqb last 0x6C) (ansiModes false c q)
+    (cond (eqb last 0x68) (modesSet false true c q)
+    (cond (eqb last 0x6C) (modesSet false false c q)
     (cond (eqb last 0x6D) (selectRendition c q)
     (cond (eqb last 0x72) (setMargins c q)
-    (quiet c))))))))))))))))))
+    (unedited c))))))))))))))))))
 
--- with the mark ?
-abbrev pub markedSequence : Core → Params → ℕ → Decision
-markedSequence c q last =
+-- with the mark ?: DECSED, DECSEL, SM, RM
+abbrev pub privateSequence : Core → Params → ℕ → Decision
+privateSequence c q last =
     cond (eqb last 0x4A) (inPage c (param q 0) toSpace)
     (cond (eqb last 0x4B) (inRow c (param q 0) toSpace)
-    (cond (eqb last 0x68) (decModes true c q)
-    (cond (eqb last 0x6C) (decModes false c q)
-    (quiet c))))
+    (cond (eqb last 0x68) (modesSet true true c q)
+    (cond (eqb last 0x6C) (modesSet true false c q)
+    (unedited c))))
 
+-- besides these DECSCA and DECSTR
 unfoldable pub sequenced : Core → Params → ℕ → ℕ → ℕ → ℕ → Decision
 sequenced c q mark first second last =
     cond (isPlain mark first second) (plainSequence c q last)
-    (cond (isMarked mark first second) (markedSequence c q last)
+    (cond (isPrivate mark first second) (privateSequence c q last)
     (cond (isProtection mark first second last) (selectProtection c q)
-    (cond (isSoftReset mark first second last) (quiet (softReset c))
-    (quiet c))))
+    (cond (isSoftReset mark first second last) (unedited (softReset c))
+    (unedited c))))

@@ -1,19 +1,18 @@
 // Control sequences that erase. Margins don't matter.
-use cells::Edit;
+use cells::BLANK;
 use device::cursor::Cursor;
-use parser::numbers::at_most;
-use parser::numbers::pick_wide;
-use parser::params::Params;
+use ground::numbers::capped;
+use ground::numbers::pick_wide;
+use page::Edit;
 use vt::core::Core;
 use vt::core::Decision;
-use vt::effects::only;
+use vt::effects::one_edit;
 ghost use mathlib.Core.Path.{_≡_};
 ghost use mathlib.Core.Bool.{cond};
 ghost use Prim.Native.Nat.{_+_, _≤_};
 ghost use lib.Dec.{eqb};
 ghost use Rattle.vt.specs.Bounds.{Bounds};
 ghost use Rattle.device.specs.Cursor.{offset};
-ghost use Rattle.parser.specs.Params.{param};
 ghost use Rattle.csi.specs.Sequences as sequences;
 
 // A run of cells in reading order: it ends before `to`.
@@ -41,12 +40,12 @@ fn erase(core: Core, selector: u16, base: u16, end: u16) -> Decision
 {
     let cursor = core.cursor;
     let run = selected(cursor, selector, base, end);
-    only(
+    one_edit(
         core,
         Edit::Fill {
             from: run.from,
             to: run.to,
-            word: 0x20,
+            word: BLANK,
         },
     )
 }
@@ -58,7 +57,7 @@ fn erase_selectively(core: Core, selector: u16, base: u16, end: u16) -> Decision
 {
     let cursor = core.cursor;
     let run = selected(cursor, selector, base, end);
-    only(
+    one_edit(
         core,
         Edit::SelectiveErase {
             from: run.from,
@@ -76,53 +75,53 @@ fn row_start(core: Core) -> u16
 }
 
 // ED.
-pub fn erase_in_display(core: Core, params: Params) -> Decision
+pub fn erase_in_display(core: Core, selector: u16) -> Decision
     requires { ⌜ Bounds core ⌝ }
-    ensures { λ r. ⌜ r ≡ sequences.inPage core (param params 0) sequences.toBlank ⌝ }
+    ensures { λ r. ⌜ r ≡ sequences.inPage core selector sequences.toBlank ⌝ }
 {
-    erase(core, params.get(0), 0, 80 * (core.rows as u16))
+    erase(core, selector, 0, 80 * (core.rows as u16))
 }
 
 // EL.
-pub fn erase_in_line(core: Core, params: Params) -> Decision
+pub fn erase_in_line(core: Core, selector: u16) -> Decision
     requires { ⌜ Bounds core ⌝ }
-    ensures { λ r. ⌜ r ≡ sequences.inRow core (param params 0) sequences.toBlank ⌝ }
+    ensures { λ r. ⌜ r ≡ sequences.inRow core selector sequences.toBlank ⌝ }
 {
     let base = row_start(core);
-    erase(core, params.get(0), base, base + 80)
+    erase(core, selector, base, base + 80)
 }
 
 // DECSED.
-pub fn selective_erase_in_display(core: Core, params: Params) -> Decision
+pub fn selective_erase_in_display(core: Core, selector: u16) -> Decision
     requires { ⌜ Bounds core ⌝ }
-    ensures { λ r. ⌜ r ≡ sequences.inPage core (param params 0) sequences.toSpace ⌝ }
+    ensures { λ r. ⌜ r ≡ sequences.inPage core selector sequences.toSpace ⌝ }
 {
-    erase_selectively(core, params.get(0), 0, 80 * (core.rows as u16))
+    erase_selectively(core, selector, 0, 80 * (core.rows as u16))
 }
 
 // DECSEL.
-pub fn selective_erase_in_line(core: Core, params: Params) -> Decision
+pub fn selective_erase_in_line(core: Core, selector: u16) -> Decision
     requires { ⌜ Bounds core ⌝ }
-    ensures { λ r. ⌜ r ≡ sequences.inRow core (param params 0) sequences.toSpace ⌝ }
+    ensures { λ r. ⌜ r ≡ sequences.inRow core selector sequences.toSpace ⌝ }
 {
     let base = row_start(core);
-    erase_selectively(core, params.get(0), base, base + 80)
+    erase_selectively(core, selector, base, base + 80)
 }
 
 // ECH: n cells in the row.
-pub fn erase_characters(core: Core, params: Params) -> Decision
+pub fn erase_characters(core: Core, n: u16) -> Decision
     requires { ⌜ Bounds core ⌝ }
-    ensures { λ r. ⌜ r ≡ sequences.eraseCharacters core params ⌝ }
+    ensures { λ r. ⌜ r ≡ sequences.eraseCharacters core n ⌝ }
 {
     let cursor = core.cursor;
     let from = cursor.offset();
-    let count = at_most(params.n(), 81 - cursor.column);
-    only(
+    let count = capped(n, 81 - cursor.column);
+    one_edit(
         core,
         Edit::Fill {
             from,
             to: from + count as u16,
-            word: 0x20,
+            word: BLANK,
         },
     )
 }

@@ -1,11 +1,13 @@
 // Control sequences that insert and delete rows and cells. Outside T to B they are ignored before they come here.
-use cells::Edit;
-use parser::numbers::at_most;
-use parser::numbers::back;
-use parser::params::Params;
+use cells::BLANK;
+use ground::numbers::back;
+use ground::numbers::capped;
+use page::Edit;
 use vt::core::Core;
 use vt::core::Decision;
-use vt::effects::only;
+use vt::effects::one_edit;
+use vt::geometry::right_stop;
+use vt::geometry::stops_of;
 ghost use mathlib.Core.Path.{_≡_};
 ghost use Prim.Native.Nat.{_≤_};
 ghost use Rattle.vt.specs.Bounds.{Bounds};
@@ -19,73 +21,75 @@ fn rows_below(core: Core) -> u8
     back(core.margins.bottom, (core.cursor.row - 1) as u16, 0)
 }
 
-// How many cells there are from the cursor's to the row's end.
+// How many cells there are from the cursor's to the right stop.
 fn cells_right(core: Core) -> u8
     requires { ⌜ Bounds core ⌝ }
     ensures { λ r. ⌜ r ≡ sequences.cellsRight core ⌝ }
 {
-    80 - (core.cursor.column - 1)
+    right_stop(core) - (core.cursor.column - 1)
 }
 
 // IL: n rows, and column 1.
-pub fn insert_lines(mut core: Core, params: Params) -> Decision
+pub fn insert_lines(mut core: Core, n: u16) -> Decision
     requires { ⌜ Bounds core ⌝ }
-    ensures { λ r. ⌜ r ≡ sequences.insertLines core params ⌝ }
+    ensures { λ r. ⌜ r ≡ sequences.insertLines core n ⌝ }
 {
     let cursor = core.cursor;
+    let stops = stops_of(core);
     let edit = Edit::ScrollDown {
         top: cursor.row - 1,
         end: core.margins.bottom,
-        left: 0,
-        right: 80,
-        count: at_most(params.n(), rows_below(core)),
+        left: stops.left - 1,
+        right: stops.right,
+        count: capped(n, rows_below(core)),
     };
-    core.cursor = cursor.to_column(1);
-    only(core, edit)
+    core.cursor = cursor.to_column(stops.left);
+    one_edit(core, edit)
 }
 
 // DL.
-pub fn delete_lines(mut core: Core, params: Params) -> Decision
+pub fn delete_lines(mut core: Core, n: u16) -> Decision
     requires { ⌜ Bounds core ⌝ }
-    ensures { λ r. ⌜ r ≡ sequences.deleteLines core params ⌝ }
+    ensures { λ r. ⌜ r ≡ sequences.deleteLines core n ⌝ }
 {
     let cursor = core.cursor;
+    let stops = stops_of(core);
     let edit = Edit::ScrollUp {
         top: cursor.row - 1,
         end: core.margins.bottom,
-        left: 0,
-        right: 80,
-        count: at_most(params.n(), rows_below(core)),
+        left: stops.left - 1,
+        right: stops.right,
+        count: capped(n, rows_below(core)),
     };
-    core.cursor = cursor.to_column(1);
-    only(core, edit)
+    core.cursor = cursor.to_column(stops.left);
+    one_edit(core, edit)
 }
 
 // ICH: n cells.
-pub fn insert_characters(core: Core, params: Params) -> Decision
+pub fn insert_characters(core: Core, n: u16) -> Decision
     requires { ⌜ Bounds core ⌝ }
-    ensures { λ r. ⌜ r ≡ sequences.insertCharacters core params ⌝ }
+    ensures { λ r. ⌜ r ≡ sequences.insertCharacters core n ⌝ }
 {
     let edit = Edit::InsertCells {
         row: core.cursor.row - 1,
         column: core.cursor.column - 1,
-        end: 80,
-        count: at_most(params.n(), cells_right(core)),
-        word: 0x20,
+        end: right_stop(core),
+        count: capped(n, cells_right(core)),
+        word: BLANK,
     };
-    only(core, edit)
+    one_edit(core, edit)
 }
 
 // DCH.
-pub fn delete_characters(core: Core, params: Params) -> Decision
+pub fn delete_characters(core: Core, n: u16) -> Decision
     requires { ⌜ Bounds core ⌝ }
-    ensures { λ r. ⌜ r ≡ sequences.deleteCharacters core params ⌝ }
+    ensures { λ r. ⌜ r ≡ sequences.deleteCharacters core n ⌝ }
 {
     let edit = Edit::DeleteCells {
         row: core.cursor.row - 1,
         column: core.cursor.column - 1,
-        end: 80,
-        count: at_most(params.n(), cells_right(core)),
+        end: right_stop(core),
+        count: capped(n, cells_right(core)),
     };
-    only(core, edit)
+    one_edit(core, edit)
 }

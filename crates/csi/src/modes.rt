@@ -2,15 +2,15 @@
 use cells::Rendition;
 use device::charsets::Sets;
 use device::charsets::SingleShift;
-use parser::numbers::pick;
 use parser::params::Params;
 use vt::core::Core;
 use vt::core::Decision;
 use vt::core::Margins;
 use vt::core::Modes;
-use vt::effects::quiet;
+use vt::effects::unedited;
 use vt::fresh::fresh_saved;
 use vt::fresh::plain_rendition;
+use vt::geometry::home;
 ghost use mathlib.Core.Path.{_≡_};
 ghost use mathlib.Core.Bool.{true, cond, _||_};
 ghost use lib.Dec.{eqb, ltb};
@@ -26,16 +26,16 @@ pub fn clear_tabs(mut core: Core, params: Params) -> Decision
     let tabs = core.tabs;
     if selector == 0 {
         core.tabs = tabs.clear(core.cursor.column);
-        return quiet(core);
+        return unedited(core);
     }
     if selector == 3 {
         core.tabs = tabs.clear_all();
-        return quiet(core);
+        return unedited(core);
     }
-    quiet(core)
+    unedited(core)
 }
 
-// ---- modes: SM, RM take all parameters in order
+// ---- modes
 
 // 4 insert (IRM), 20 newline (LNM).
 fn ansi_mode(mut core: Core, value: u16, on: bool) -> Core
@@ -52,13 +52,13 @@ fn ansi_mode(mut core: Core, value: u16, on: bool) -> Core
     core
 }
 
-// DECOM: the cursor goes to row 1, or T if now on.
+// DECOM: cursor home, with origin as it now is.
 fn origin_mode(mut core: Core, on: bool) -> Core
     ensures { λ r. ⌜ r ≡ sequences.originMode on core ⌝ }
 {
-    let cursor = core.cursor;
     core.modes.origin = on;
-    core.cursor = cursor.home(pick(on, core.margins.top, 1), 1);
+    let cursor = home(core);
+    core.cursor = cursor;
     core
 }
 
@@ -80,28 +80,27 @@ fn dec_mode(mut core: Core, value: u16, on: bool) -> Core
     core
 }
 
-pub fn ansi_modes(mut core: Core, params: Params, on: bool) -> Decision
-    ensures { λ r. ⌜ r ≡ sequences.ansiModes on core params ⌝ }
+// One value; private with ?.
+fn set_mode(core: Core, private: bool, value: u16, on: bool) -> Core
+    ensures { λ r. ⌜ r ≡ sequences.modeSet private on core value ⌝ }
 {
-    let count = params.count();
-    let mut i: u8 = 0;
-    while i < count {
-        core = ansi_mode(core, params.get(i), on);
-        i += 1;
+    if private {
+        return dec_mode(core, value, on);
     }
-    quiet(core)
+    ansi_mode(core, value, on)
 }
 
-pub fn dec_modes(mut core: Core, params: Params, on: bool) -> Decision
-    ensures { λ r. ⌜ r ≡ sequences.decModes on core params ⌝ }
+// SM, RM: all parameters in order.
+pub fn set_modes(mut core: Core, private: bool, params: Params, on: bool) -> Decision
+    ensures { λ r. ⌜ r ≡ sequences.modesSet private on core params ⌝ }
 {
     let count = params.count();
     let mut i: u8 = 0;
     while i < count {
-        core = dec_mode(core, params.get(i), on);
+        core = set_mode(core, private, params.get(i), on);
         i += 1;
     }
-    quiet(core)
+    unedited(core)
 }
 
 // ---- rendition and protection
@@ -139,7 +138,7 @@ pub fn select_graphic_rendition(mut core: Core, params: Params) -> Decision
         i += 1;
     }
     core.rendition = rendition;
-    quiet(core)
+    unedited(core)
 }
 
 // DECSCA: 1 protects, 0 and 2 don't.
@@ -149,13 +148,13 @@ pub fn select_protection(mut core: Core, params: Params) -> Decision
     let selector = params.get(0);
     if selector == 1 {
         core.protected = true;
-        return quiet(core);
+        return unedited(core);
     }
     if selector <= 2 {
         core.protected = false;
-        return quiet(core);
+        return unedited(core);
     }
-    quiet(core)
+    unedited(core)
 }
 
 // ---- margins
@@ -182,18 +181,18 @@ pub fn margins_taken(core: Core, params: Params) -> bool
     params.n() < bottom as u16
 }
 
-// DECSTBM, where the margins are taken: then cursor home, row 1 or T with origin on.
+// DECSTBM, where the margins are taken: then cursor home, with the new ones.
 pub fn set_margins(mut core: Core, params: Params) -> Decision
     requires { ⌜ sequences.marginsTaken core params ≡ true ⌝ }
     ensures { λ r. ⌜ r ≡ sequences.setMargins core params ⌝ }
 {
-    let cursor = core.cursor;
     let bottom = asked_bottom(core.rows, params.get(1));
     let top = params.n() as u8;
     let margins = Margins { top, bottom };
     core.margins = margins;
-    core.cursor = cursor.home(pick(core.modes.origin, top, 1), 1);
-    quiet(core)
+    let cursor = home(core);
+    core.cursor = cursor;
+    unedited(core)
 }
 
 // ---- DECSTR: cursor, tabs, newline and reply width stay

@@ -1,54 +1,54 @@
 // Control sequences that move the cursor.
-use parser::numbers::at_most;
-use parser::numbers::on;
-use parser::numbers::or_one;
-use parser::numbers::pick;
-use parser::params::Params;
+use ground::numbers::capped;
+use ground::numbers::on;
+use ground::numbers::or_one;
 use vt::core::Core;
 use vt::core::Decision;
-use vt::effects::quiet;
+use vt::effects::unedited;
+use vt::geometry::bottom_stop;
+use vt::geometry::first_row;
+use vt::geometry::last_row;
+use vt::geometry::left_stop;
+use vt::geometry::right_stop;
+use vt::geometry::top_stop;
 ghost use mathlib.Core.Path.{_≡_};
 ghost use Prim.Native.Nat.{_≤_};
 ghost use Rattle.csi.specs.Sequences as sequences;
 
-// CUU: to T if not already above it, else to the page's edge.
-pub fn cursor_up(mut core: Core, params: Params) -> Decision
-    ensures { λ r. ⌜ r ≡ sequences.cursorUp core params ⌝ }
+// CUU.
+pub fn cursor_up(mut core: Core, n: u16) -> Decision
+    ensures { λ r. ⌜ r ≡ sequences.cursorUp core n ⌝ }
 {
     let cursor = core.cursor;
-    let top = core.margins.top;
-    let stop = pick(top <= cursor.row, top, 1);
-    core.cursor = cursor.up(params.n(), stop);
-    quiet(core)
+    core.cursor = cursor.up(n, top_stop(core));
+    unedited(core)
 }
 
 // CUD.
-pub fn cursor_down(mut core: Core, params: Params) -> Decision
-    ensures { λ r. ⌜ r ≡ sequences.cursorDown core params ⌝ }
+pub fn cursor_down(mut core: Core, n: u16) -> Decision
+    ensures { λ r. ⌜ r ≡ sequences.cursorDown core n ⌝ }
 {
     let cursor = core.cursor;
-    let bottom = core.margins.bottom;
-    let stop = pick(cursor.row <= bottom, bottom, core.rows);
-    core.cursor = cursor.down(params.n(), stop);
-    quiet(core)
+    core.cursor = cursor.down(n, bottom_stop(core));
+    unedited(core)
 }
 
 // CUF.
-pub fn cursor_right(mut core: Core, params: Params) -> Decision
-    ensures { λ r. ⌜ r ≡ sequences.cursorRight core params ⌝ }
+pub fn cursor_right(mut core: Core, n: u16) -> Decision
+    ensures { λ r. ⌜ r ≡ sequences.cursorRight core n ⌝ }
 {
     let cursor = core.cursor;
-    core.cursor = cursor.right(params.n(), 80);
-    quiet(core)
+    core.cursor = cursor.right(n, right_stop(core));
+    unedited(core)
 }
 
 // CUB.
-pub fn cursor_left(mut core: Core, params: Params) -> Decision
-    ensures { λ r. ⌜ r ≡ sequences.cursorLeft core params ⌝ }
+pub fn cursor_left(mut core: Core, n: u16) -> Decision
+    ensures { λ r. ⌜ r ≡ sequences.cursorLeft core n ⌝ }
 {
     let cursor = core.cursor;
-    core.cursor = cursor.left(params.n(), 1);
-    quiet(core)
+    core.cursor = cursor.left(n, left_stop(core));
+    unedited(core)
 }
 
 // The row of a position: held to the page; with origin on row 1 is T, held to B.
@@ -56,19 +56,16 @@ fn row_at(core: Core, row: u16) -> u8
     requires { ⌜ 1 ≤ row ⌝ }
     ensures { λ r. ⌜ r ≡ sequences.rowAt core row ⌝ }
 {
-    if core.modes.origin {
-        return on(core.margins.top, row - 1, core.margins.bottom);
-    }
-    at_most(row, core.rows)
+    on(first_row(core), row - 1, last_row(core))
 }
 
-// CUP, HVP.
-pub fn cursor_position(mut core: Core, params: Params) -> Decision
-    ensures { λ r. ⌜ r ≡ sequences.cursorPosition core params ⌝ }
+// CUP, HVP: row and column, 0 as 1.
+pub fn cursor_position(mut core: Core, row: u16, column: u16) -> Decision
+    ensures { λ r. ⌜ r ≡ sequences.cursorPosition core row column ⌝ }
 {
     let cursor = core.cursor;
-    let row = row_at(core, params.n());
-    let column = at_most(or_one(params.get(1)), 80);
+    let row = row_at(core, or_one(row));
+    let column = capped(or_one(column), right_stop(core));
     core.cursor = cursor.home(row, column);
-    quiet(core)
+    unedited(core)
 }

@@ -8,26 +8,25 @@ use crate::inserting::delete_characters;
 use crate::inserting::delete_lines;
 use crate::inserting::insert_characters;
 use crate::inserting::insert_lines;
-use crate::modes::ansi_modes;
 use crate::modes::clear_tabs;
-use crate::modes::dec_modes;
 use crate::modes::select_graphic_rendition;
 use crate::modes::select_protection;
 use crate::modes::set_margins;
+use crate::modes::set_modes;
 use crate::modes::soft_reset;
 use crate::moves::cursor_down;
 use crate::moves::cursor_left;
 use crate::moves::cursor_position;
 use crate::moves::cursor_right;
 use crate::moves::cursor_up;
-use parser::families::is_marked;
 use parser::families::is_plain;
+use parser::families::is_private;
 use parser::families::is_protection;
 use parser::families::is_soft_reset;
 use parser::params::Params;
 use vt::core::Core;
 use vt::core::Decision;
-use vt::effects::quiet;
+use vt::effects::unedited;
 ghost use mathlib.Core.Path.{_≡_};
 ghost use mathlib.Core.Bool.{true};
 ghost use Rattle.parser.specs.Families.{isPlain};
@@ -40,39 +39,39 @@ fn plain_sequence(core: Core, params: Params, last: u8) -> Decision
     ensures { λ r. ⌜ r ≡ sequences.plainSequence core params last ⌝ }
 {
     match last {
-        0x40 => insert_characters(core, params),
-        0x41 => cursor_up(core, params),
-        0x42 => cursor_down(core, params),
-        0x43 => cursor_right(core, params),
-        0x44 => cursor_left(core, params),
-        0x48 => cursor_position(core, params),
-        0x4A => erase_in_display(core, params),
-        0x4B => erase_in_line(core, params),
-        0x4C => insert_lines(core, params),
-        0x4D => delete_lines(core, params),
-        0x50 => delete_characters(core, params),
-        0x58 => erase_characters(core, params),
-        0x66 => cursor_position(core, params),
-        0x67 => clear_tabs(core, params),
-        0x68 => ansi_modes(core, params, true),
-        0x6C => ansi_modes(core, params, false),
-        0x6D => select_graphic_rendition(core, params),
-        0x72 => set_margins(core, params),
-        _ => quiet(core),
+        0x40 => insert_characters(core, params.n()), // ICH
+        0x41 => cursor_up(core, params.n()), // CUU
+        0x42 => cursor_down(core, params.n()), // CUD
+        0x43 => cursor_right(core, params.n()), // CUF
+        0x44 => cursor_left(core, params.n()), // CUB
+        0x48 => cursor_position(core, params.get(0), params.get(1)), // CUP
+        0x4A => erase_in_display(core, params.get(0)), // ED
+        0x4B => erase_in_line(core, params.get(0)), // EL
+        0x4C => insert_lines(core, params.n()), // IL
+        0x4D => delete_lines(core, params.n()), // DL
+        0x50 => delete_characters(core, params.n()), // DCH
+        0x58 => erase_characters(core, params.n()), // ECH
+        0x66 => cursor_position(core, params.get(0), params.get(1)), // HVP
+        0x67 => clear_tabs(core, params), // TBC
+        0x68 => set_modes(core, false, params, true), // SM
+        0x6C => set_modes(core, false, params, false), // RM
+        0x6D => select_graphic_rendition(core, params), // SGR
+        0x72 => set_margins(core, params), // DECSTBM
+        _ => unedited(core),
     }
 }
 
 // With the mark ?.
-fn marked_sequence(core: Core, params: Params, last: u8) -> Decision
+fn private_sequence(core: Core, params: Params, last: u8) -> Decision
     requires { ⌜ Bounds core ⌝ }
-    ensures { λ r. ⌜ r ≡ sequences.markedSequence core params last ⌝ }
+    ensures { λ r. ⌜ r ≡ sequences.privateSequence core params last ⌝ }
 {
     match last {
-        0x4A => selective_erase_in_display(core, params),
-        0x4B => selective_erase_in_line(core, params),
-        0x68 => dec_modes(core, params, true),
-        0x6C => dec_modes(core, params, false),
-        _ => quiet(core),
+        0x4A => selective_erase_in_display(core, params.get(0)), // DECSED
+        0x4B => selective_erase_in_line(core, params.get(0)), // DECSEL
+        0x68 => set_modes(core, true, params, true), // SM
+        0x6C => set_modes(core, true, params, false), // RM
+        _ => unedited(core),
     }
 }
 
@@ -83,14 +82,14 @@ pub fn sequence(core: Core, params: Params, mark: u8, first: u8, second: u8, las
     if is_plain(mark, first, second) {
         return plain_sequence(core, params, last);
     }
-    if is_marked(mark, first, second) {
-        return marked_sequence(core, params, last);
+    if is_private(mark, first, second) {
+        return private_sequence(core, params, last);
     }
     if is_protection(mark, first, second, last) {
         return select_protection(core, params);
     }
     if is_soft_reset(mark, first, second, last) {
-        return quiet(soft_reset(core));
+        return unedited(soft_reset(core));
     }
-    quiet(core)
+    unedited(core)
 }

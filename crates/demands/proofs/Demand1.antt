@@ -10,47 +10,41 @@ use lib.Dec.{eqb, ltb}
 use lib.Pow.{pow-pos, pow-mono}
 use lib.ListN.{length, getD, take, drop, length-append}
 use lib.Seq.{sets, sets-eq, length-sets, take-all, take-at, drop-at}
-use borrow.Author.Tests.{ltb-true, ltb-false, eqb-true, eqb-false}
+use borrow.Author.Tests.{ltb-true, ltb-false, le-leb, eqb-true, eqb-false}
 use Rattle.cells.specs.Sets.{sizeOf, hasBit}
 use Rattle.cells.proofs.BitLaws.{ones-size}
-use Rattle.cells.proofs.EditLaws.{every-edit}
+use Rattle.page.proofs.EditLaws.{every-edit}
 use Rattle.vt.specs.declared.core.Core.{Core}
 use Rattle.vt.specs.Whole.{sized, Whole}
-use Rattle.vt.specs.Fresh.{freshCore}
 use Rattle.dispatch.specs.Decide.{decided, sends}
-use Rattle.sound.proofs.Sound.{fresh-whole}
-use Rattle.sound.proofs.Wholeness.{facts}
-use Rattle.sound.proofs.ReplyLength.{sends-short}
-use Rattle.terminal.specs.declared.State.{State}
+use Rattle.wholeness.proofs.Wholeness.{sized-rows, facts, fresh-rows, fresh-whole}
+use Rattle.wholeness.proofs.ReplyLength.{sends-short}
+use Rattle.steps.specs.declared.State.{State}
 use Rattle.terminal.specs.declared.Answer.{Answer}
 use Rattle.terminal.specs.declared.Answer.the-variants.{Done, Broken, WrongSize, OffPage}
 use Rattle.terminal.specs.Answers.{number, refusal}
-use Rattle.terminal.specs.Steps.{Screen, stepped, ran, ranCore, sent, readable}
-use Rattle.terminal.specs.Whole.{wholeState, WholeState}
+use Rattle.steps.specs.Steps.{stepped, ran, ranCore, sent, readable, screen}
+use Rattle.steps.specs.Whole.{wholeState, WholeState}
 use Rattle.terminal.specs.Start.{Start, fresh, started}
-use Rattle.terminal.specs.Feed.{Feed, readCount, fitting, screen, feedFirst, feedRefused, fed}
+use Rattle.feeding.specs.Bytes.{readCount}
+use Rattle.terminal.specs.Feed.{Feed, fitting, feedFirst, feedRefused, fed}
 use Rattle.terminal.specs.Ask.{Ask, asked}
 use Rattle.terminal.specs.Read.{Read, onPage, cellRead}
-use Rattle.terminal.proofs.StepLaws.{Sane, sane-step, sane-ran, ran-core, sent-fits, reads-all, readable-most, readable-fits}
-use Rattle.terminal.proofs.CallLaws.{state-facts, state-tested, sane-screen, fed-broken, fed-size, fed-run, fed-cases, Taken, fed-taken, fed-left, asked-done, asked-broken, asked-whole, started-as, read-as}
-use Rattle.demands.specs.Statements.{Sized, stateOf, FreshWhole, StepWhole, StartWhole, FeedWhole, AskWhole, RepliesShort, NextTooLong, FeedAnswers, FeedExact, FeedRefused, FeedDoes, RestKept, ReplyKept, Progress, StartAnswers, StartExact, AskAnswers, AskExact, ReadAnswers, ReadExact, EveryEdit}
+use Rattle.terminal.specs.CursorRead.{CursorReading, cursorDone, cursorRefused, cursorRead}
+use Rattle.steps.proofs.StepLaws.{ReadyAt, ready-step, step-rows, step-long, ready-ran, ran-core, sent-fits, reads-all, readable-most, readable-fits}
+use Rattle.terminal.proofs.CallLaws.{state-facts, state-tested, fed-broken, fed-size, fed-run, fed-cases, Taken, fed-taken, fed-left, asked-done, asked-broken, asked-whole, started-as, read-as}
+use Rattle.demands.specs.Statements.{Sized, stateIn, FreshWhole, StepWhole, StartWhole, FeedWhole, AskWhole, RepliesShort, NextTooLong, FeedAnswers, FeedExact, FeedRefused, FeedDoes, RestKept, ReplyKept, Progress, StartAnswers, StartExact, AskAnswers, AskExact, ReadAnswers, ReadExact, CursorAnswers, CursorExact, EveryEdit}
 
 -- ---- states stay whole
 
-fresh-rows : (r : ℕ) → fresh r .core .rows ≡ r
-unfolding freshCore
-fresh-rows r = refl
-
 pub fresh-is-whole : FreshWhole
-fresh-is-whole r e = state-tested (fresh r) (record { core = fresh-whole r e; changed = rw fresh-rows (pow-pos r) })
-
-sane-whole : (r : ℕ) (d : Screen) → Sane r d → wholeState (stateOf d) ≡ true
-sane-whole r d k = state-tested (stateOf d) (record { core = k .whole; changed = rw (k .rows) (k .few) })
+fresh-is-whole r e = state-tested (fresh r) (record { core = fresh-whole r (sized-rows r e); size = rw fresh-rows e; changed = rw fresh-rows (pow-pos r) })
 
 pub step-keeps-whole : StepWhole
 step-keeps-whole s p b e h =
-    let k = sane-step (s .core .rows) (screen s p) b (sane-screen s p e h) in
-    record { whole = sane-whole (s .core .rows) (stepped (screen s p) b) k; rows = k .rows; size = k .size ∙ sym h }
+    let d = screen s p in
+    let k : ReadyAt d = record { whole = state-facts s e; size = h } in
+    record { whole = state-tested (stateIn (stepped d b)) (ready-step d b k .whole); rows = step-rows d b k; size = step-long d b k }
 
 pub start-returns-whole : StartWhole
 unfolding started
@@ -66,13 +60,14 @@ feed-returns-whole s p i o h =
     let t : Taken s p = fed-taken s p i o h in
     let n = readCount s i o in
     rw (fed-run s p i o (t .whole) (t .size))
-    (sane-whole (s .core .rows) (ran (screen s p) (take n i)) (sane-ran (s .core .rows) (screen s p) (take n i) (sane-screen s p (t .whole) (t .size))))
+    (state-tested (stateIn (ran (screen s p) (take n i)))
+    (ready-ran (screen s p) (take n i) (record { whole = state-facts s (t .whole); size = t .size }) .whole))
 
 pub ask-returns-whole : AskWhole
 ask-returns-whole s h =
     let e = asked-whole s h in
     let w : WholeState s = state-facts s e in
-    rw (asked-done s e) (state-tested (record { core = s .core; changed = 0 }) (record { core = w .core; changed = pow-pos (s .core .rows) }))
+    rw (asked-done s e) (state-tested (record { core = s .core; tracked = record { changed = 0 } }) (record { core = w .core; size = w .size; changed = pow-pos (s .core .rows) }))
 
 -- ---- replies are short
 
@@ -268,10 +263,10 @@ start-is-exact r p = go (sized r) refl (eqb (length p) (80 * r)) refl
         }
 
 -- the rows above R have no bit
-count-64 : (s : State) → wholeState s ≡ true → sizeOf (s .core .rows) (hasBit (s .changed)) ≡ sizeOf 64 (hasBit (s .changed))
+count-64 : (s : State) → wholeState s ≡ true → sizeOf (s .core .rows) (hasBit (s .tracked .changed)) ≡ sizeOf 64 (hasBit (s .tracked .changed))
 count-64 s e =
     let w : WholeState s = state-facts s e in
-    sym (ones-size (s .core .rows) (s .changed) (w .changed)) ∙ ones-size 64 (s .changed) (lt-of-lt-of-le (w .changed) (pow-mono {j = 64} (omega (arith, w .core .rows-high))))
+    sym (ones-size (s .core .rows) (s .tracked .changed) (w .changed)) ∙ ones-size 64 (s .tracked .changed) (lt-of-lt-of-le (w .changed) (pow-mono {j = 64} (omega (arith, w .core .parts .bounds .count .high))))
 
 pub ask-is-exact : AskExact
 ask-is-exact s = go (wholeState s) refl
@@ -346,6 +341,46 @@ read-is-exact s p r c = go (wholeState s) refl (eqb (length p) (80 * s .core .ro
           done = neither (λ z. omega arith) (λ x. false≢true (sym e ∙ x .0));
           refused = λ x. ap (λ (y : Read). y .result .word) q;
           word = λ x. absurd (false≢true (sym x ∙ ap (λ (y : Read). refusal (y .result .answer)) q));
+        }
+
+cursor-done : (s : State) → wholeState s ≡ true → cursorRead s ≡ cursorDone s
+unfolding cursorRead
+cursor-done s e = rw e
+
+cursor-broken : (s : State) → wholeState s ≡ false → cursorRead s ≡ cursorRefused Broken
+unfolding cursorRead
+cursor-broken s e = rw e
+
+cursor-on-page : (c : Core) → Whole c → onPage (c .rows) (c .cursor .row) (c .cursor .column) ≡ true
+cursor-on-page c w =
+    rw (
+      le-leb 1 (c .cursor .row) (w .parts .bounds .cursor .row-low),
+      le-leb (c .cursor .row) (c .rows) (w .parts .bounds .cursor .row-high),
+      le-leb 1 (c .cursor .column) (w .parts .bounds .cursor .column-low),
+      le-leb (c .cursor .column) 80 (w .parts .bounds .cursor .column-high),
+    )
+
+pub cursor-is-exact : CursorExact
+cursor-is-exact s = go (wholeState s) refl
+  where
+    go : (t : Bool) → wholeState s ≡ t → CursorAnswers s
+    go true e =
+        let q = cursor-done s e in
+        let n : cursorRead s .number ≡ 0 = ap (λ (x : CursorReading). x .number) q in
+        record {
+          broken = neither (λ z. omega arith) (λ x. false≢true (sym x ∙ e));
+          done = both n e;
+          refused = λ x. absurd (omega arith);
+          placed = λ x. rw q (record { row = refl; column = refl; wrap = refl; shown = refl; on-page = cursor-on-page (s .core) (state-facts s e .core) });
+        }
+    go false e =
+        let q = cursor-broken s e in
+        let n : cursorRead s .number ≡ 1 = ap (λ (x : CursorReading). x .number) q in
+        record {
+          broken = both n e;
+          done = neither (λ z. omega arith) (λ x. false≢true (sym e ∙ x));
+          refused = λ x. ap (λ (y : CursorReading). y .result) q;
+          placed = λ x. absurd (omega arith);
         }
 
 -- ---- edits

@@ -6,20 +6,21 @@ use native.Mathlib.Omega.{arith}
 use lib.ListN.{length, take}
 use lib.Seq.{take-all}
 use Rattle.vt.specs.declared.core.Core.{Core}
-use Rattle.terminal.specs.declared.State.{State}
+use Rattle.steps.specs.declared.State.{State}
 use Rattle.terminal.specs.Answers.{number}
-use Rattle.terminal.specs.Steps.{Screen, ran, ranCore, sent}
-use Rattle.terminal.specs.Feed.{Feed, readCount, fitting, screen, feedFirst, fed}
-use Rattle.terminal.proofs.StepLaws.{ran-append, ran-core, sent-append}
+use Rattle.steps.specs.Steps.{Screen, ran, ranCore, sent, screen}
+use Rattle.feeding.specs.Bytes.{readCount}
+use Rattle.terminal.specs.Feed.{Feed, fitting, feedFirst, fed}
+use Rattle.steps.proofs.StepLaws.{ran-append, ran-core, sent-append}
 use Rattle.terminal.proofs.CallLaws.{fed-run}
-use Rattle.demands.specs.Statements.{stateOf, Part, sentBy, Several, several, AllDone, inputOf, Demand2}
+use Rattle.demands.specs.Statements.{stateIn, Part, sentBy, Several, several, AllDone, inputOf, Demand2}
 use Rattle.demands.proofs.Demand1.{feed-is-exact, reply-rest-kept, front}
 
 -- ---- one call that is done has read all its input
 
 record ReadAll (s : State) (p i : List ℕ) (f : Feed) : Type 0 where
   page : f .page ≡ ran (screen s p) i .page
-  state : f .result .state ≡ stateOf (ran (screen s p) i)
+  state : f .result .state ≡ stateIn (ran (screen s p) i)
   bytes : sentBy f ≡ sent (s .core) i
 
 read-all : (s : State) (p i o : List ℕ) → fed s p i o .number ≡ 0 → ReadAll s p i (fed s p i o)
@@ -33,7 +34,7 @@ read-all s p i o h =
     let fits : length out ≤ length o = subst (λ (f : Feed). f .result .replied ≤ length o) run (reply-rest-kept s p i o .within) in
     record {
       page = ap (λ (f : Feed). f .page) run ∙ ap (λ (l : List ℕ). ran (screen s p) l .page) all;
-      state = ap (λ (f : Feed). f .result .state) run ∙ ap (λ (l : List ℕ). stateOf (ran (screen s p) l)) all;
+      state = ap (λ (f : Feed). f .result .state) run ∙ ap (λ (l : List ℕ). stateIn (ran (screen s p) l)) all;
       bytes = ap sentBy run ∙ front out o fits ∙ ap (sent (s .core)) all;
     }
 
@@ -42,7 +43,7 @@ read-all s p i o h =
 -- what they leave is what one run over all their input leaves
 record RunOf (s : State) (p i : List ℕ) (g : Several) : Type 0 where
   page : g .page ≡ ran (screen s p) i .page
-  state : g .state ≡ stateOf (ran (screen s p) i)
+  state : g .state ≡ stateIn (ran (screen s p) i)
   bytes : g .sent ≡ sent (s .core) i
 
 run-of : (s : State) (p : List ℕ) (xs : List Part) → AllDone s p xs → RunOf s p (inputOf xs) (several s p xs)
@@ -58,7 +59,7 @@ run-of s p (x ∷ xs) h =
     let core : f .result .state .core ≡ ranCore (s .core) (x .input) = ap (λ (t : State). t .core) (a .state) ∙ ran-core (screen s p) (x .input) in
     record {
       page = b .page ∙ ap (λ (d : Screen). d .page) whole;
-      state = b .state ∙ ap stateOf whole;
+      state = b .state ∙ ap stateIn whole;
       bytes = ap₂ (λ (u v : List ℕ). u ++ v) (a .bytes) (b .bytes ∙ ap (λ (c : Core). sent c (inputOf xs)) core) ∙ sym (sent-append (s .core) (x .input) (inputOf xs));
     }
 

@@ -7,47 +7,49 @@ use mathlib.Core.Logic.{⊎-elim}
 use Prim.Native.Nat.{ℕ, zero, suc, _+_, _-_, _*_, _%_, _^_, _≤_, _<_}
 use native.Mathlib.Nat.{add-zero, eq-or-lt-of-le, le-of-suc-le-suc, lt-of-lt-of-le, div-eq-of-lt}
 use native.Mathlib.Omega.{arith}
+use lib.Bits.{bitOr}
 use lib.Dec.{ltb, eqb}
 use lib.Pow.{pow-mono}
 use lib.Seq.{drop-drop}
 use lib.ListN.{length, take, drop, length-replicate, take-append-drop}
 use borrow.Author.Tests.{eq-eqb, ne-eqb}
-use Rattle.cells.specs.declared.Edit.{Edit}
+use Rattle.page.specs.declared.Edit.{Edit}
 use Rattle.cells.specs.Cells.{blank}
 use Rattle.cells.specs.Rows.{row}
 use Rattle.cells.specs.Sets.{bitsOf, hasBit, changed}
-use Rattle.cells.specs.Edits.{applied, Within}
-use Rattle.cells.proofs.BitLaws.{bits-at, bits-none, bits-lt, added-bits, size-ext}
+use Rattle.page.specs.Edits.{applied, Within}
+use Rattle.cells.proofs.BitLaws.{bits-at, bits-none, bits-lt, bits-or, bits-ext, added-bits, size-ext}
 use Rattle.cells.proofs.RowLaws.{joined-ext, joined-rows}
-use Rattle.cells.proofs.EditLaws.{length-applied, unchanged}
+use Rattle.page.proofs.EditLaws.{length-applied, unchanged}
 use Rattle.vt.specs.declared.core.Decision.{Decision}
 use Rattle.vt.specs.Whole.{Whole}
 use Rattle.vt.specs.Fresh.{freshCore}
 use Rattle.dispatch.specs.Decide.{decided}
-use Rattle.parser.proofs.Tests.{or-left, or-right}
-use Rattle.sound.proofs.SoundParts.{Sound}
-use Rattle.sound.proofs.Sound.{decided-sound, fresh-whole}
-use Rattle.terminal.specs.declared.State.{State}
+use Rattle.ground.proofs.TestLaws.{or-left, or-right}
+use Rattle.wholeness.proofs.Decisions.{Sound}
+use Rattle.wholeness.proofs.Sound.{decided-sound}
+use Rattle.wholeness.proofs.Wholeness.{sized-rows, fresh-rows, fresh-whole}
+use Rattle.steps.specs.declared.State.{State}
 use Rattle.terminal.specs.Answers.{number, refusal}
-use Rattle.terminal.specs.Steps.{Screen, Marked, edited, stepped, ran, sent, readable}
+use Rattle.steps.specs.Steps.{Screen, Marked, edited, acted, stepped, ran, sent, readable}
 use Rattle.terminal.specs.Start.{blankPage, started}
 use Rattle.terminal.specs.Feed.{fed}
-use Rattle.terminal.proofs.StepLaws.{edited-page, edited-changed, sent-fits}
+use Rattle.steps.proofs.StepLaws.{edited-page, edited-changed, sent-fits}
 use Rattle.terminal.proofs.CallLaws.{Taken, fed-taken, fed-left, fed-run, run-number, asked-whole, asked-done}
 use Rattle.demands.specs.Model as M
-use Rattle.demands.specs.Model.{Model, Call, feeding, asking, reading, Seen, sawFed, sawRows, sawCell, rowList, joins, byte, bytes}
+use Rattle.demands.specs.Model.{Model, Call, feeding, asking, reading, Seen, feedSeen, rowsSeen, cellSeen, rowList, joins, byte, bytes}
 use Rattle.demands.specs.World as W
-use Rattle.demands.specs.World.{World, Item, Lent, hers, part, other, isListed, patched, Proper, Given}
+use Rattle.demands.specs.World.{World, Item, Lent, entire, part, other, isListed, patched, Proper, Given}
 use Rattle.demands.specs.Statements.{Agrees, Demand3}
 use Rattle.demands.proofs.Demand1.{start-is-exact, read-is-exact, front}
 
 -- ---- the world that belongs to a model
 
 abbrev screenOf : ℕ → Model → Screen
-screenOf r m = record { core = m .core; page = m .page; changed = bitsOf r (m .rows) }
+screenOf r m = record { core = m .core; page = m .page; tracked = record { changed = bitsOf r (m .rows) } }
 
 abbrev worldOf : ℕ → Model → List ℕ → World
-worldOf r m copy = record { page = m .page; state = record { core = m .core; changed = bitsOf r (m .rows) }; copy = copy }
+worldOf r m copy = record { page = m .page; state = record { core = m .core; tracked = record { changed = bitsOf r (m .rows) } }; copy = copy }
 
 -- what is kept of a model of r rows and the copy beside it: rows outside the set are the same in both
 record Kept (r : ℕ) (m : Model) (copy : List ℕ) : Type 0 where
@@ -85,23 +87,30 @@ step-joins n e p s h w =
     ap₂ (λ (q : List ℕ) (c : ℕ). record { page = q; changed = c }) (edited-page n e m h)
     (edited-changed n e m h (bits-lt n s) w ∙ added-bits n s (changed p (applied n e p)))
 
+-- what a byte adds to a set, step by step
+joins-once : (n : ℕ) (s : ℕ → Bool) (p q u : List ℕ)
+    → bitOr (bitsOf n s) (bitsOf n (joins (joins (λ k. false) p q) q u)) ≡ bitsOf n (joins (joins s p q) q u)
+joins-once n s p q u =
+    bits-or n s (joins (joins (λ k. false) p q) q u) ∙ bits-ext n _ _ (λ k l. sym (or-assoc (s k) (changed p q k) (changed q u k)))
+
 -- a byte of the code's definition is a byte of the model
 byte-screen : (r : ℕ) (m : Model) (copy : List ℕ) (b : ℕ) → Kept r m copy → stepped (screenOf r m) b ≡ screenOf r (byte m b)
-unfolding stepped byte
+unfolding stepped acted byte
 byte-screen r m copy b K =
     let n : ℕ = m .core .rows in
     let x : Decision = decided (m .core) b in
     let p : List ℕ = applied n (x .first) (m .page) in
     let q : List ℕ = applied n (x .second) p in
     let z = sizes r m copy b K in
-    let start : Marked = record { page = m .page; changed = bitsOf n (m .rows) } in
-    let one : edited n (x .first) start ≡ record { page = p; changed = bitsOf n (joins (m .rows) (m .page) p) } =
-    step-joins n (x .first) (m .page) (m .rows) (z .before) (z .first) in
-    let two : edited n (x .second) (edited n (x .first) start) ≡ record { page = q; changed = bitsOf n (joins (joins (m .rows) (m .page) p) p q) } =
-    ap (edited n (x .second)) one ∙ step-joins n (x .second) p (joins (m .rows) (m .page) p) (z .between) (z .second) in
-    ap (λ (i : ℕ). let d = edited n (x .second) (edited n (x .first) (record { page = m .page; changed = bitsOf i (m .rows) })) in record { core = x .core; page = d .page; changed = d .changed }) (sym (K .rows))
-    ∙ ap (λ (d : Marked). record { core = x .core; page = d .page; changed = d .changed }) two
-    ∙ ap (λ (i : ℕ). record { core = x .core; page = q; changed = bitsOf i (joins (joins (m .rows) (m .page) p) p q) }) (K .rows)
+    let none : ℕ → Bool = λ (k : ℕ). false in
+    let start : Marked = record { page = m .page; changed = 0 } in
+    let one : edited n (x .first) start ≡ record { page = p; changed = bitsOf n (joins none (m .page) p) } =
+    ap (λ (i : ℕ). edited n (x .first) (record { page = m .page; changed = i })) (sym (bits-none n)) ∙ step-joins n (x .first) (m .page) none (z .before) (z .first) in
+    let two : edited n (x .second) (edited n (x .first) start) ≡ record { page = q; changed = bitsOf n (joins (joins none (m .page) p) p q) } =
+    ap (edited n (x .second)) one ∙ step-joins n (x .second) p (joins none (m .page) p) (z .between) (z .second) in
+    ap (λ (d : Marked). record { core = x .core; page = d .page; tracked = record { changed = bitOr (bitsOf r (m .rows)) (d .changed) } }) two
+    ∙ ap (λ (i : ℕ). record { core = x .core; page = q; tracked = record { changed = bitOr (bitsOf r (m .rows)) (bitsOf i (joins (joins none (m .page) p) p q)) } }) (K .rows)
+    ∙ ap (λ (i : ℕ). record { core = x .core; page = q; tracked = record { changed = i } }) (joins-once r (m .rows) (m .page) p q)
 
 -- a row outside the set after a step was outside before it, and is as it was
 kept-step : (r : ℕ) (s : ℕ → Bool) (copy p q : List ℕ) → length p ≡ 80 * r → length q ≡ 80 * r
@@ -200,11 +209,11 @@ ap₃ f p q r = λ i. f (p i) (q i) (r i)
 
 module _ (r : ℕ) (m : Model) (copy : List ℕ) (K : Kept r m copy) where
   abbrev own : State
-  own = record { core = m .core; changed = bitsOf r (m .rows) }
+  own = record { core = m .core; tracked = record { changed = bitsOf r (m .rows) } }
 
-  feeding-matches : (i o : List ℕ) → refusal (W.answerTo (worldOf r m copy) own hers (feeding i o)) ≡ false
-      → Matches r (W.worldAfter (worldOf r m copy) own hers (feeding i o)) (M.after m (feeding i o))
-      (W.seenOf (worldOf r m copy) own hers (feeding i o)) (M.shows m (feeding i o))
+  feeding-matches : (i o : List ℕ) → refusal (W.answerTo (worldOf r m copy) own entire (feeding i o)) ≡ false
+      → Matches r (W.worldAfter (worldOf r m copy) own entire (feeding i o)) (M.afterCall m (feeding i o))
+      (W.seenOf (worldOf r m copy) own entire (feeding i o)) (M.shows m (feeding i o))
   feeding-matches i o h =
       let t : Taken own (m .page) = fed-taken own (m .page) i o h in
       let run = fed-run own (m .page) i o (t .whole) (t .size) in
@@ -216,12 +225,12 @@ module _ (r : ℕ) (m : Model) (copy : List ℕ) (K : Kept r m copy) where
           is = rw (h, run, bytes-screen r m copy (M.taken m i o) K);
           kept = kept-bytes r m copy (M.taken m i o) K;
         };
-        same = rw run (ap₂ (λ (a : ℕ) (l : List ℕ). sawFed a n l) (run-number (ltb n (length i))) (front out o (sent-fits (length o) (m .core) i)));
+        same = rw run (ap₂ (λ (a : ℕ) (l : List ℕ). feedSeen a n l) (run-number (ltb n (length i))) (front out o (sent-fits (length o) (m .core) i)));
       }
 
   -- the rows that an asking lists
   listed-all : rowList 64 (hasBit (bitsOf r (m .rows))) ≡ rowList r (m .rows)
-  listed-all = list-64 r (m .rows) (omega (arith, K .whole .rows-high, K .rows))
+  listed-all = list-64 r (m .rows) (omega (arith, K .whole .parts .bounds .count .high, K .rows))
 
   -- the copy with these rows replaced is the page
   patched-right : patched r (rowList r (m .rows)) copy (m .page) ≡ m .page
@@ -235,9 +244,9 @@ module _ (r : ℕ) (m : Model) (copy : List ℕ) (K : Kept r m copy) where
           pick true e = refl
           pick false e = K .right k l e
 
-  asking-matches : refusal (W.answerTo (worldOf r m copy) own hers asking) ≡ false
-      → Matches r (W.worldAfter (worldOf r m copy) own hers asking) (M.after m asking)
-      (W.seenOf (worldOf r m copy) own hers asking) (M.shows m asking)
+  asking-matches : refusal (W.answerTo (worldOf r m copy) own entire asking) ≡ false
+      → Matches r (W.worldAfter (worldOf r m copy) own entire asking) (M.afterCall m asking)
+      (W.seenOf (worldOf r m copy) own entire asking) (M.shows m asking)
   asking-matches h =
       let done = asked-done own (asked-whole own h) in
       let bits : ℕ = bitsOf r (m .rows) in
@@ -247,32 +256,32 @@ module _ (r : ℕ) (m : Model) (copy : List ℕ) (K : Kept r m copy) where
       record {
         related = record {
           copy = m .page;
-          is = rw done (ap₂ (λ (x : ℕ) (c : List ℕ). record { page = m .page; state = record { core = m .core; changed = x }; copy = c }) (sym (bits-none r)) right);
+          is = rw done (ap₂ (λ (x : ℕ) (c : List ℕ). record { page = m .page; state = record { core = m .core; tracked = record { changed = x } }; copy = c }) (sym (bits-none r)) right);
           kept = record { rows = K .rows; whole = K .whole; size = K .size; right = λ k l e. refl };
         };
-        same = rw done (ap₃ sawRows (listed-all ∙ ap (λ (n : ℕ). rowList n (m .rows)) (sym (K .rows))) (size-ext (m .core .rows) (hasBit bits) (m .rows) in-set) right);
+        same = rw done (ap₃ rowsSeen (listed-all ∙ ap (λ (n : ℕ). rowList n (m .rows)) (sym (K .rows))) (size-ext (m .core .rows) (hasBit bits) (m .rows) in-set) right);
       }
 
-  reading-matches : (i j : ℕ) → refusal (W.answerTo (worldOf r m copy) own hers (reading i j)) ≡ false
-      → Matches r (W.worldAfter (worldOf r m copy) own hers (reading i j)) (M.after m (reading i j))
-      (W.seenOf (worldOf r m copy) own hers (reading i j)) (M.shows m (reading i j))
+  reading-matches : (i j : ℕ) → refusal (W.answerTo (worldOf r m copy) own entire (reading i j)) ≡ false
+      → Matches r (W.worldAfter (worldOf r m copy) own entire (reading i j)) (M.afterCall m (reading i j))
+      (W.seenOf (worldOf r m copy) own entire (reading i j)) (M.shows m (reading i j))
   reading-matches i j h = record {
     related = record { copy = copy; is = refl; kept = K };
-    same = ap sawCell (read-is-exact own (m .page) i j .word h);
+    same = ap cellSeen (read-is-exact own (m .page) i j .word h);
   }
 
 -- ---- one item of a list
 
-given-matches : (r : ℕ) (m : Model) (copy : List ℕ) → Kept r m copy → (call : Call) (s : State) (l : Lent) → s ≡ worldOf r m copy .state → W.LentHers call l
+given-matches : (r : ℕ) (m : Model) (copy : List ℕ) → Kept r m copy → (call : Call) (s : State) (l : Lent) → s ≡ worldOf r m copy .state → W.LentEntire call l
     → refusal (W.answerTo (worldOf r m copy) s l call) ≡ false
-    → Matches r (W.worldAfter (worldOf r m copy) s l call) (M.after m call) (W.seenOf (worldOf r m copy) s l call) (M.shows m call)
+    → Matches r (W.worldAfter (worldOf r m copy) s l call) (M.afterCall m call) (W.seenOf (worldOf r m copy) s l call) (M.shows m call)
 given-matches r m copy K (feeding i o) s l es el h = rw (es, el) (feeding-matches r m copy K i o (rw (es, el) at h))
 given-matches r m copy K asking s l es el h = rw es (asking-matches r m copy K (rw es at h))
 given-matches r m copy K (reading i j) s l es el h = rw (es, el) (reading-matches r m copy K i j (rw (es, el) at h))
 
 -- a refused call leaves her world, whatever it was given
 left-page : (w : World) (l : Lent) (q : List ℕ) → q ≡ W.wordsOf w l → W.pageAfter w l q ≡ w .page
-left-page w hers q e = e
+left-page w entire q e = e
 left-page w (part a n) q e =
     let p : List ℕ = w .page in
     ap₂ (λ (x y : List ℕ). take a p ++ (x ++ y)) e (sym (drop-drop n a p)) ∙ ap (λ (x : List ℕ). take a p ++ x) (take-append-drop n (drop a p)) ∙ take-append-drop a p
@@ -286,8 +295,8 @@ refused-left w asking s l h = rw h
 refused-left w (reading i j) s l h = refl
 
 record Steps (r : ℕ) (w : World) (m : Model) (x : Item) : Type 0 where
-  related : Related r (W.next w x) (M.afterTold m (W.told w x))
-  same : W.seen w x ≡ M.showsTold m (W.told w x)
+  related : Related r (W.next w x) (M.afterNotice m (W.noticeOf w x))
+  same : W.seen w x ≡ M.showsNotice m (W.noticeOf w x)
 
 item : (r : ℕ) (m : Model) (w : World) (x : Item) → Related r w m → (W.isRefused w x ≡ false → Given w x) → (t : Bool) → W.isRefused w x ≡ t → Steps r w m x
 item r m w x R G true e = record {
@@ -297,25 +306,21 @@ item r m w x R G true e = record {
 item r m w x R G false e =
     let g = G e in
     let e' = subst (λ (v : World). refusal (W.answerTo v (x .state) (x .lent) (x .call)) ≡ false) (R .is) e in
-    let A = subst (λ (v : World). Matches r (W.worldAfter v (x .state) (x .lent) (x .call)) (M.after m (x .call)) (W.seenOf v (x .state) (x .lent) (x .call)) (M.shows m (x .call)))
+    let A = subst (λ (v : World). Matches r (W.worldAfter v (x .state) (x .lent) (x .call)) (M.afterCall m (x .call)) (W.seenOf v (x .state) (x .lent) (x .call)) (M.shows m (x .call)))
     (sym (R .is)) (given-matches r m (R .copy) (R .kept) (x .call) (x .state) (x .lent) (g .newest ∙ ap (λ (v : World). v .state) (R .is)) (g .lends) e') in
     record { related = rw e (A .related); same = rw e (ap (λ (y : Seen). y ∷ []) (A .same)) }
 
 -- ---- every list
 
 agrees : (r : ℕ) (w : World) (m : Model) (xs : List Item) → Related r w m → Proper w xs → Agrees w m xs
-unfolding W.endsAt W.seenAll W.toldAll M.ends M.showsAll
+unfolding W.endsAt W.seenAll W.noticesOf M.ends M.showsAll
 agrees r w m [] R P = record { page = ap (λ (v : World). v .page) (R .is); core = ap (λ (v : World). v .state .core) (R .is); seen = refl }
 agrees r w m (x ∷ xs) R P =
     let S = item r m w x R (P .0) (W.isRefused w x) refl in
-    let A = agrees r (W.next w x) (M.afterTold m (W.told w x)) xs (S .related) (P .1) in
+    let A = agrees r (W.next w x) (M.afterNotice m (W.noticeOf w x)) xs (S .related) (P .1) in
     record { page = A .page; core = A .core; seen = ap₂ (λ (a b : List Seen). a ++ b) (S .same) (A .seen) }
 
 -- ---- the start
-
-begun-rows : (r : ℕ) → M.begun r .core .rows ≡ r
-unfolding freshCore
-begun-rows r = refl
 
 start-related : (r : ℕ) (p : List ℕ) → started r p .number ≡ 0 → Related r (W.opened r p) (M.begun r)
 start-related r p h =
@@ -325,8 +330,8 @@ start-related r p h =
     let long : length (blankPage r) ≡ 80 * r = length-replicate (80 * r) blank in
     record {
       copy = blankPage r;
-      is = rw (b .0, b .1) (ap (λ (x : ℕ). record { page = blankPage r; state = record { core = freshCore r; changed = x }; copy = blankPage r }) (sym (bits-none r)));
-      kept = record { rows = begun-rows r; whole = fresh-whole r (d .0); size = long; right = λ k l e. refl };
+      is = rw (b .0, b .1) (ap (λ (x : ℕ). record { page = blankPage r; state = record { core = freshCore r; tracked = record { changed = x } }; copy = blankPage r }) (sym (bits-none r)));
+      kept = record { rows = fresh-rows r; whole = fresh-whole r (sized-rows r (d .0)); size = long; right = λ k l e. refl };
     }
 
 pub demand-3 : Demand3

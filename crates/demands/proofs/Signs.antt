@@ -5,14 +5,15 @@ use Prim.Native.Nat.{ℕ, _*_, _<_}
 use lib.ListN.{length}
 use Rattle.cells.specs.Cells.{blank, Printable}
 use Rattle.cells.specs.Rows.{Every}
-use Rattle.cells.specs.Edits.{applied, entering}
-use Rattle.cells.specs.declared.Edit.{Edit}
+use Rattle.page.specs.Edits.{applied, entering}
+use Rattle.page.specs.declared.Edit.{Edit}
 use Rattle.cells.proofs.CellLaws.{blank-printable, erased-printable}
-use Rattle.cells.proofs.EnteringLaws.{every-weaker, every-take, every-replicate, every-applied}
+use Rattle.page.proofs.EnteringLaws.{every-applied}
+use Rattle.cells.proofs.EveryLaws.{every-weaker, every-take, every-replicate}
 use Rattle.dispatch.specs.Decide.{decided}
-use Rattle.parser.proofs.Tests.{either}
-use Rattle.sound.proofs.SoundWords.{decided-brings}
-use Rattle.terminal.specs.Steps.{readable}
+use Rattle.ground.proofs.TestLaws.{either}
+use Rattle.wholeness.proofs.SoundWords.{decided-brings}
+use Rattle.steps.specs.Steps.{readable}
 use Rattle.text.proofs.SignLaws.{sign-ascii, sign-substitute, sign-graphic, sign-unshown}
 use Rattle.demands.specs.Model as M
 use Rattle.demands.specs.Model.{Model, Call, feeding, asking, reading, byte, bytes}
@@ -42,16 +43,16 @@ unfolding bytes
 bytes-clean m [] h c = c
 bytes-clean m (b ∷ bs) h c = bytes-clean (byte m b) bs (h .1) (byte-clean m b (h .0) c)
 
-call-clean : (m : Model) (call : Call) → InputBytes call → Clean m → Clean (M.after m call)
+call-clean : (m : Model) (call : Call) → InputBytes call → Clean m → Clean (M.afterCall m call)
 call-clean m (feeding i o) h c = bytes-clean m (M.taken m i o) (every-take (λ b. b < 256) (readable (length o) (m .core) i) i h) c
 call-clean m asking h c = c
 call-clean m (reading r k) h c = c
 
-ends-clean : (w : World) (m : Model) (xs : List Item) → AllBytes xs → Clean m → Clean (M.ends m (W.toldAll w xs))
-unfolding W.toldAll M.ends
+ends-clean : (w : World) (m : Model) (xs : List Item) → AllBytes xs → Clean m → Clean (M.ends m (W.noticesOf w xs))
+unfolding W.noticesOf M.ends
 ends-clean w m [] h c = c
 ends-clean w m (x ∷ xs) h c =
-    ends-clean (W.next w x) (M.afterTold m (W.told w x)) xs (h .1) (either Clean (W.isRefused w x) (λ _. c) (λ _. call-clean m (x .call) (h .0) c))
+    ends-clean (W.next w x) (M.afterNotice m (W.noticeOf w x)) xs (h .1) (either Clean (W.isRefused w x) (λ _. c) (λ _. call-clean m (x .call) (h .0) c))
 
 -- ---- her page
 

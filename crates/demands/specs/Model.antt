@@ -6,11 +6,11 @@ use Prim.Native.Nat.{ℕ, zero, suc, _+_}
 use lib.Dec.{ltb}
 use lib.ListN.{length, take}
 use Rattle.cells.specs.Sets.{sizeOf, changed}
-use Rattle.cells.specs.Edits.{applied}
+use Rattle.page.specs.Edits.{applied}
 use Rattle.vt.specs.declared.core.Core.{Core}
 use Rattle.vt.specs.Fresh.{freshCore}
 use Rattle.dispatch.specs.Decide.{decided}
-use Rattle.terminal.specs.Steps.{sent, readable}
+use Rattle.steps.specs.Steps.{sent, readable}
 use Rattle.terminal.specs.Start.{blankPage}
 use Rattle.terminal.specs.Read.{cellAt}
 
@@ -22,16 +22,16 @@ pub data Call : Type 0 where
   asking : Call
   reading : ℕ → ℕ → Call
 
-pub record Told : Type 0 where
+pub record Notice : Type 0 where
   pub call : Call
   pub refused : Bool
 
 -- what is seen of a call that is not refused: the answer's number, how many bytes were read, and the bytes sent;
 -- the rows reported, their number, and a reader's copy of the page with these rows replaced; a cell's word
 pub data Seen : Type 0 where
-  sawFed : ℕ → ℕ → List ℕ → Seen
-  sawRows : List ℕ → ℕ → List ℕ → Seen
-  sawCell : ℕ → Seen
+  feedSeen : ℕ → ℕ → List ℕ → Seen
+  rowsSeen : List ℕ → ℕ → List ℕ → Seen
+  cellSeen : ℕ → Seen
 
 -- the rows below n that are in a set, by their numbers from 1
 unfoldable pub rowList : ℕ → (ℕ → Bool) → List ℕ
@@ -70,31 +70,31 @@ bytes m (b ∷ bs) = bytes (byte m b) bs
 abbrev pub taken : Model → List ℕ → List ℕ → List ℕ
 taken m input reply = take (readable (length reply) (m .core) input) input
 
-abbrev pub after : Model → Call → Model
-after m (feeding input reply) = bytes m (taken m input reply)
-after m asking = record { core = m .core; page = m .page; rows = λ k. false }
-after m (reading r c) = m
+abbrev pub afterCall : Model → Call → Model
+afterCall m (feeding input reply) = bytes m (taken m input reply)
+afterCall m asking = record { core = m .core; page = m .page; rows = λ k. false }
+afterCall m (reading r c) = m
 
 -- the copy shown is the model's page itself
 abbrev pub shows : Model → Call → Seen
 shows m (feeding input reply) =
     let n = readable (length reply) (m .core) input in
-    sawFed (cond (ltb n (length input)) 3 0) n (sent (m .core) (take n input))
-shows m asking = sawRows (rowList (m .core .rows) (m .rows)) (sizeOf (m .core .rows) (m .rows)) (m .page)
-shows m (reading r c) = sawCell (cellAt (m .page) r c)
+    feedSeen (cond (ltb n (length input)) 3 0) n (sent (m .core) (take n input))
+shows m asking = rowsSeen (rowList (m .core .rows) (m .rows)) (sizeOf (m .core .rows) (m .rows)) (m .page)
+shows m (reading r c) = cellSeen (cellAt (m .page) r c)
 
 -- ---- a list of calls: a refused one changes nothing and shows nothing
 
-abbrev pub afterTold : Model → Told → Model
-afterTold m t = cond (t .refused) m (after m (t .call))
+abbrev pub afterNotice : Model → Notice → Model
+afterNotice m t = cond (t .refused) m (afterCall m (t .call))
 
-abbrev pub showsTold : Model → Told → List Seen
-showsTold m t = cond (t .refused) [] (shows m (t .call) ∷ [])
+abbrev pub showsNotice : Model → Notice → List Seen
+showsNotice m t = cond (t .refused) [] (shows m (t .call) ∷ [])
 
-unfoldable pub ends : Model → List Told → Model
+unfoldable pub ends : Model → List Notice → Model
 ends m [] = m
-ends m (t ∷ ts) = ends (afterTold m t) ts
+ends m (t ∷ ts) = ends (afterNotice m t) ts
 
-unfoldable pub showsAll : Model → List Told → List Seen
+unfoldable pub showsAll : Model → List Notice → List Seen
 showsAll m [] = []
-showsAll m (t ∷ ts) = showsTold m t ++ showsAll (afterTold m t) ts
+showsAll m (t ∷ ts) = showsNotice m t ++ showsAll (afterNotice m t) ts

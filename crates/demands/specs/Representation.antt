@@ -13,7 +13,7 @@ use mathlib.Core.Logic.{_↔_}
 use lib.Dec.{eqb}
 use Rattle.device.specs.declared.tabs.Tabs.{Tabs}
 use Rattle.device.specs.Tabs.{isTab, withTab, withoutTab, noTabs, nextTab, tabsUpTo}
-use Rattle.device.specs.Decimals.{decimal, valueOf}
+use Rattle.ground.specs.Decimals.{decimal, valueOf}
 use Rattle.terminal.specs.Start.{fresh}
 
 -- ---- cells

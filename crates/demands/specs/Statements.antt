@@ -1,27 +1,30 @@
 -- What is proved of the definitions, a sentence above each statement. proofs/ has, for each, a theorem of the type stated here.
--- The promises of the calls are equations with `started`, `fed`, `asked` and `cellRead`, so what is proved of these holds of the calls.
+-- The promises of the calls are equations with `started`, `fed`, `asked`, `cellRead` and `cursorRead`, so what is proved of these holds of the calls.
 use mathlib.Core.Path.{_≡_}
 use mathlib.Core.Bool.{true, false}
 use mathlib.Core.List.{List, [], _∷_, _++_}
 use mathlib.Core.Logic.{_↔_}
 use Prim.Native.Nat.{ℕ, _+_, _-_, _*_, _≤_, _<_}
 use lib.ListN.{length, getD, take, drop}
-use Rattle.cells.specs.declared.Edit.{Edit}
+use Rattle.page.specs.declared.Edit.{Edit}
 use Rattle.cells.specs.Cells.{blank}
 use Rattle.cells.specs.Sets.{sizeOf, hasBit, changed}
-use Rattle.cells.specs.Edits.{applied, target, Within}
+use Rattle.page.specs.Edits.{applied, target, Within}
 use Rattle.vt.specs.declared.core.Core.{Core}
 use Rattle.vt.specs.Whole.{sized, wholeCore}
 use Rattle.dispatch.specs.Decide.{sends}
-use Rattle.terminal.specs.declared.State.{State}
+use Rattle.steps.specs.declared.State.{State}
 use Rattle.terminal.specs.declared.Asked.{Asked}
+use Rattle.terminal.specs.declared.Answer.the-variants.{Broken}
 use Rattle.terminal.specs.Answers.{refusal}
-use Rattle.terminal.specs.Steps.{Screen, stepped, ran, sent}
-use Rattle.terminal.specs.Whole.{wholeState}
+use Rattle.steps.specs.Steps.{Screen, stepped, ran, sent, screen}
+use Rattle.steps.specs.Whole.{wholeState}
 use Rattle.terminal.specs.Start.{fresh, blankPage, started}
-use Rattle.terminal.specs.Feed.{Feed, screen, fed}
+use Rattle.terminal.specs.Feed.{Feed, fed}
 use Rattle.terminal.specs.Ask.{asked}
 use Rattle.terminal.specs.Read.{onPage, cellAt, cellRead}
+use Rattle.terminal.specs.declared.CursorRead.{CursorRead}
+use Rattle.terminal.specs.CursorRead.{cursorRead}
 use Rattle.demands.specs.Model as M
 use Rattle.demands.specs.World as W
 
@@ -30,8 +33,8 @@ abbrev pub Sized : State → List ℕ → Type 0
 Sized s p = length p ≡ 80 * s .core .rows
 
 -- the state of a screen
-abbrev pub stateOf : Screen → State
-stateOf d = record { core = d .core; changed = d .changed }
+abbrev pub stateIn : Screen → State
+stateIn d = record { core = d .core; tracked = d .tracked }
 
 -- the bytes that a feeding sent
 abbrev pub sentBy : Feed → List ℕ
@@ -45,7 +48,7 @@ FreshWhole = (r : ℕ) → sized r ≡ true → wholeState (fresh r) ≡ true
 
 -- Every byte's step keeps a whole state whole, with as many rows, and keeps the page's length.
 pub record KeptWhole (s : State) (p : List ℕ) (b : ℕ) : Type 0 where
-  pub whole : wholeState (stateOf (stepped (screen s p) b)) ≡ true
+  pub whole : wholeState (stateIn (stepped (screen s p) b)) ≡ true
   pub rows : stepped (screen s p) b .core .rows ≡ s .core .rows
   pub size : length (stepped (screen s p) b .page) ≡ length p
 
@@ -102,7 +105,7 @@ FeedRefused = (s : State) (p i o : List ℕ) → refusal (fed s p i o .result .a
 -- An unrefused one has done exactly the bytes that it says it read, and sent their replies: what came before the byte that it stopped at, and
 -- nothing of that byte.
 pub record DoneUpTo (s : State) (p i : List ℕ) (f : Feed) : Type 0 where
-  pub state : f .result .state ≡ stateOf (ran (screen s p) (take (f .result .read) i))
+  pub state : f .result .state ≡ stateIn (ran (screen s p) (take (f .result .read) i))
   pub page : f .page ≡ ran (screen s p) (take (f .result .read) i) .page
   pub bytes : sentBy f ≡ sent (s .core) (take (f .result .read) i)
 
@@ -136,10 +139,10 @@ StartExact = (r : ℕ) (p : List ℕ) → StartAnswers r p
 
 -- The changed rows, how many of their 64 bits are 1, and the state with no changed rows.
 pub record Reported (s : State) (a : Asked) : Type 0 where
-  pub rows : a .rows ≡ s .changed
-  pub count : a .count ≡ sizeOf 64 (hasBit (s .changed))
+  pub rows : a .rows ≡ s .tracked .changed
+  pub count : a .count ≡ sizeOf 64 (hasBit (s .tracked .changed))
   pub core : a .state .core ≡ s .core
-  pub emptied : a .state .changed ≡ 0
+  pub emptied : a .state .tracked .changed ≡ 0
 
 -- Asking answers 1 exactly for a state that is not whole, and then returns the empty set, 0, and the state as it came. Else it answers 0, and
 -- returns the set, how many rows are in it, and the state with the set emptied.
@@ -163,6 +166,25 @@ pub record ReadAnswers (s : State) (p : List ℕ) (r c : ℕ) : Type 0 where
 
 abbrev pub ReadExact : Type 0
 ReadExact = (s : State) (p : List ℕ) (r c : ℕ) → ReadAnswers s p r c
+
+-- Where the cursor is on the page, from 1, whether a wrap is due there, and whether it is shown.
+pub record Placed (s : State) (d : CursorRead) : Type 0 where
+  pub row : d .row ≡ s .core .cursor .row
+  pub column : d .column ≡ s .core .cursor .column
+  pub wrap : d .wrap ≡ s .core .cursor .wrap
+  pub shown : d .shown ≡ s .core .modes .shown
+  pub on-page : onPage (s .core .rows) (d .row) (d .column) ≡ true
+
+-- Reading the cursor answers 1 exactly for a state that is not whole, and then returns row 0, column 0 and neither flag. Else it answers 0, and
+-- returns the cursor, which is on the page.
+pub record CursorAnswers (s : State) : Type 0 where
+  pub broken : cursorRead s .number ≡ 1 ↔ (wholeState s ≡ false)
+  pub done : cursorRead s .number ≡ 0 ↔ (wholeState s ≡ true)
+  pub refused : cursorRead s .number ≡ 1 → cursorRead s .result ≡ record { answer = Broken; row = 0; column = 0; wrap = false; shown = false }
+  pub placed : cursorRead s .number ≡ 0 → Placed s (cursorRead s .result)
+
+abbrev pub CursorExact : Type 0
+CursorExact = (s : State) → CursorAnswers s
 
 -- ==== Demand 2. Feeding the same bytes in several calls changes nothing, if each call's replies fit.
 
@@ -225,9 +247,9 @@ EveryEdit = (n : ℕ) (e : Edit) (p : List ℕ) → length p ≡ 80 * n → With
 -- read.
 
 pub record Agrees (w : W.World) (m : M.Model) (xs : List W.Item) : Type 0 where
-  pub page : W.endsAt w xs .page ≡ M.ends m (W.toldAll w xs) .page
-  pub core : W.endsAt w xs .state .core ≡ M.ends m (W.toldAll w xs) .core
-  pub seen : W.seenAll w xs ≡ M.showsAll m (W.toldAll w xs)
+  pub page : W.endsAt w xs .page ≡ M.ends m (W.noticesOf w xs) .page
+  pub core : W.endsAt w xs .state .core ≡ M.ends m (W.noticesOf w xs) .core
+  pub seen : W.seenAll w xs ≡ M.showsAll m (W.noticesOf w xs)
 
 abbrev pub Demand3 : Type 0
 Demand3 = (r : ℕ) (p : List ℕ) → started r p .number ≡ 0 → (xs : List W.Item) → W.Proper (W.opened r p) xs

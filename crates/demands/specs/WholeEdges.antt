@@ -12,17 +12,17 @@ use Rattle.device.specs.declared.charsets.Register.the-variants.{G0, G3}
 use Rattle.device.specs.declared.charsets.SingleShift.the-variants.{Ss3}
 use Rattle.device.specs.declared.charsets.Sets.{Sets}
 use Rattle.parser.specs.declared.params.Params.{Params}
-use Rattle.parser.specs.declared.parser.Phase.{Phase}
-use Rattle.parser.specs.declared.parser.Phase.the-variants.{Ground, Escape, EscapeOne, EscapeTwo, EscapeIgnore, CsiEntry, CsiParam, CsiOne, CsiTwo, CsiIgnore, StringText}
+use Rattle.parser.specs.declared.phases.Phase.{Phase}
+use Rattle.parser.specs.declared.phases.Phase.the-variants.{Ground, Escape, EscapeOne, EscapeTwo, EscapeIgnore, CsiEntry, CsiParam, CsiOne, CsiTwo, CsiIgnore, StringText}
 use Rattle.parser.specs.declared.parser.Parser.{Parser}
 use Rattle.vt.specs.declared.core.Margins.{Margins}
 use Rattle.vt.specs.declared.core.Modes.{Modes}
 use Rattle.vt.specs.declared.core.Saved.{Saved}
-use Rattle.terminal.specs.declared.State.{State}
+use Rattle.steps.specs.declared.State.{State}
 use Rattle.device.specs.Tabs.{noTabs}
 use Rattle.vt.specs.Fresh.{freshCore}
 use Rattle.vt.specs.Whole.{wholeCore}
-use Rattle.terminal.specs.Whole.{wholeState}
+use Rattle.steps.specs.Whole.{wholeState}
 use Rattle.terminal.specs.Start.{fresh}
 
 -- ---- one field changed
@@ -45,7 +45,7 @@ withParts s u m o v p =
         saved = v;
         parser = p;
       };
-      changed = s .changed;
+      tracked = s .tracked;
     }
 
 abbrev withCursor : State → Cursor → State
@@ -139,7 +139,7 @@ value i x s = let a = s .core .parser .params in withParams s (record { separato
 
 -- row 1 is the lowest bit
 abbrev pub changedRows : ℕ → State → State
-changedRows n s = record { core = s .core; changed = n }
+changedRows n s = record { core = s .core; tracked = record { changed = n } }
 
 -- all that the clauses do not name, as it is not when fresh
 abbrev pub allElse : State → State
@@ -161,7 +161,7 @@ allElse s =
         saved = record { cursor = c .saved .cursor; rendition = drawn; origin = true; sets = sets };
         parser = c .parser;
       };
-      changed = s .changed;
+      tracked = s .tracked;
     }
 
 -- ---- the edges, clause by clause

@@ -7,7 +7,7 @@ use lib.Dec.{eqb}
 use lib.ListN.{take, drop}
 use Rattle.cells.specs.Rows.{row, joined}
 use Rattle.cells.specs.Sets.{hasBit}
-use Rattle.terminal.specs.declared.State.{State}
+use Rattle.steps.specs.declared.State.{State}
 use Rattle.terminal.specs.declared.Asked.{Asked}
 use Rattle.terminal.specs.declared.Answer.{Answer}
 use Rattle.terminal.specs.Answers.{refusal}
@@ -15,13 +15,13 @@ use Rattle.terminal.specs.Start.{started}
 use Rattle.terminal.specs.Feed.{fed}
 use Rattle.terminal.specs.Ask.{asked}
 use Rattle.terminal.specs.Read.{cellRead}
-use Rattle.demands.specs.Model.{Call, feeding, asking, reading, Told, Seen, sawFed, sawRows, sawCell, rowList}
+use Rattle.demands.specs.Model.{Call, feeding, asking, reading, Notice, Seen, feedSeen, rowsSeen, cellSeen, rowList}
 
 -- ---- what a call was given
 
--- the page that it was lent: hers, so many words of it from some place on, or some other list of words
+-- the page that it was lent: the whole of hers, so many words of it from some place on, or some other list of words
 pub data Lent : Type 0 where
-  hers : Lent
+  entire : Lent
   part : ℕ → ℕ → Lent
   other : List ℕ → Lent
 
@@ -42,7 +42,7 @@ abbrev pub opened : ℕ → List ℕ → World
 opened r p = record { page = started r p .page; state = started r p .result .state; copy = started r p .page }
 
 abbrev pub wordsOf : World → Lent → List ℕ
-wordsOf w hers = w .page
+wordsOf w entire = w .page
 wordsOf w (part a n) = take n (drop a (w .page))
 wordsOf w (other q) = q
 
@@ -50,7 +50,7 @@ wordsOf w (other q) = q
 
 -- her page after a call that left q in what it was lent
 abbrev pub pageAfter : World → Lent → List ℕ → List ℕ
-pageAfter w hers q = q
+pageAfter w entire q = q
 pageAfter w (part a n) q = take a (w .page) ++ (q ++ drop (a + n) (w .page))
 pageAfter w (other p) q = w .page
 
@@ -89,11 +89,11 @@ worldAfter w s l (reading r c) = w
 abbrev pub seenOf : World → State → Lent → Call → Seen
 seenOf w s l (feeding i o) =
     let f = fed s (wordsOf w l) i o in
-    sawFed (f .number) (f .result .read) (take (f .result .replied) (f .reply))
+    feedSeen (f .number) (f .result .read) (take (f .result .replied) (f .reply))
 seenOf w s l asking =
     let a = asked s .result in
-    sawRows (reported a) (a .count) (patched (s .core .rows) (reported a) (w .copy) (w .page))
-seenOf w s l (reading r c) = sawCell (cellRead s (wordsOf w l) r c .result .word)
+    rowsSeen (reported a) (a .count) (patched (s .core .rows) (reported a) (w .copy) (w .page))
+seenOf w s l (reading r c) = cellSeen (cellRead s (wordsOf w l) r c .result .word)
 
 -- ---- an item
 
@@ -107,18 +107,18 @@ abbrev pub seen : World → Item → List Seen
 seen w x = cond (isRefused w x) [] (seenOf w (x .state) (x .lent) (x .call) ∷ [])
 
 -- what the model is told
-abbrev pub told : World → Item → Told
-told w x = record { call = x .call; refused = isRefused w x }
+abbrev pub noticeOf : World → Item → Notice
+noticeOf w x = record { call = x .call; refused = isRefused w x }
 
 -- an unrefused call was given the newest state and, where it takes one, her page
-abbrev pub LentHers : Call → Lent → Type 0
-LentHers (feeding i o) l = l ≡ hers
-LentHers asking l = Unit {0}
-LentHers (reading r c) l = l ≡ hers
+abbrev pub LentEntire : Call → Lent → Type 0
+LentEntire (feeding i o) l = l ≡ entire
+LentEntire asking l = Unit {0}
+LentEntire (reading r c) l = l ≡ entire
 
 pub record Given (w : World) (x : Item) : Type 0 where
   pub newest : x .state ≡ w .state
-  pub lends : LentHers (x .call) (x .lent)
+  pub lends : LentEntire (x .call) (x .lent)
 
 -- ---- a list
 
@@ -135,6 +135,6 @@ unfoldable pub seenAll : World → List Item → List Seen
 seenAll w [] = []
 seenAll w (x ∷ xs) = seen w x ++ seenAll (next w x) xs
 
-unfoldable pub toldAll : World → List Item → List Told
-toldAll w [] = []
-toldAll w (x ∷ xs) = told w x ∷ toldAll (next w x) xs
+unfoldable pub noticesOf : World → List Item → List Notice
+noticesOf w [] = []
+noticesOf w (x ∷ xs) = noticeOf w x ∷ noticesOf (next w x) xs

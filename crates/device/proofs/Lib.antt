@@ -1,4 +1,3 @@
 pub mod TabLaws
 pub mod CursorLaws
-pub mod DecimalLaws
 pub mod SendLaws

@@ -1,45 +1,18 @@
--- Writing a text byte by byte, and how long a reply is.
-use mathlib.Core.Path.{_≡_, refl, sym, ap, _∙_, subst}
+-- How long a reply is.
+use mathlib.Core.Path.{_≡_, refl}
 use mathlib.Core.Bool.{Bool, true, false}
 use mathlib.Core.List.{List, [], _∷_, _++_}
 use Prim.Native.Nat.{ℕ, _+_, _≤_, _<_}
-use native.Mathlib.Nat.{add-assoc}
-use native.Mathlib.Numerals.{add-one}
 use native.Mathlib.Omega.{arith}
-use lib.ListN.{length, getD, take, set, length-set, length-append}
-use lib.Seq.{take-suc, take-all}
+use lib.ListN.{length, length-append}
 use denote.Enum.Declared.{tagOf}
 use types.Run.{OneOf, miss}
 use Rattle.device.specs.declared.sending.Reply.{Reply}
 use Rattle.device.specs.declared.sending.Reply.the-variants.{Silent, PrimaryAttributes, SecondaryAttributes, Status, Position, ExtendedPosition, Printer}
-use Rattle.device.specs.Decimals.{decimal}
+use Rattle.ground.specs.Decimals.{decimal}
 use Rattle.device.specs.ReplyBytes.{csi, bodyOf, replyBytes}
-use Rattle.cells.specs.Writes.{Wrote}
-use Rattle.cells.proofs.Writing.{wrote-more}
-use Rattle.device.proofs.DecimalLaws.{decimal-length}
+use Rattle.ground.proofs.DecimalLaws.{decimal-length}
 use Rattle.device.proofs.sending.Reply as reply
-
--- ---- a text, byte by byte
-
-pub wrote-byte : (o : List ℕ) (at b : ℕ) → Wrote o at (b ∷ []) (set o at b) (at + 1)
-wrote-byte o at b = record { is = refl; ends = refl; long = length-set o at b }
-
-pub text-none : (o : List ℕ) (at : ℕ) (text : List ℕ) → Wrote o at (take 0 text) o (at + 0)
-text-none o at text = record { is = refl; ends = refl; long = refl }
-
-pub text-more : (o : List ℕ) (at : ℕ) (text out : List ℕ) (i : ℕ) → i < length text
-    → Wrote o at (take i text) out (at + i)
-    → Wrote o at (take (i + 1) text) (set out (at + i) (getD text i 0)) (at + (i + 1))
-text-more o at text out i h a =
-    subst (λ (xs : List ℕ). Wrote o at xs (set out (at + i) (getD text i 0)) (at + (i + 1)))
-    (sym (ap (λ (n : ℕ). take n text) (add-one i) ∙ take-suc text i 0 h))
-    (subst (λ (n : ℕ). Wrote o at (take i text ++ (getD text i 0 ∷ [])) (set out (at + i) (getD text i 0)) n)
-    (add-assoc at i 1)
-    (wrote-more a (wrote-byte out (at + i) (getD text i 0))))
-
-pub text-all : (o : List ℕ) (at : ℕ) (text out : List ℕ) (i : ℕ) → length text ≤ i
-    → Wrote o at (take i text) out (at + i) → Wrote o at text out (at + i)
-text-all o at text out i h a = subst (λ (xs : List ℕ). Wrote o at xs out (at + i)) (take-all i text h) a
 
 -- ---- every reply but none is CSI and a body
 

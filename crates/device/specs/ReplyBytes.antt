@@ -1,10 +1,8 @@
 -- The bytes of each reply (SCOPE 7).
-use mathlib.Core.Path.{_≡_}
 use mathlib.Core.Bool.{Bool, true, false}
 use mathlib.Core.List.{List, [], _∷_, _++_}
-use Prim.Native.Nat.{ℕ, _≤_}
-use lib.ListN.{length}
-use Rattle.device.specs.Decimals.{decimal}
+use Prim.Native.Nat.{ℕ}
+use Rattle.ground.specs.Decimals.{decimal}
 use Rattle.device.specs.declared.sending.Reply.{Reply}
 use Rattle.device.specs.declared.sending.Reply.the-variants.{Silent, PrimaryAttributes, SecondaryAttributes, Status, Position, ExtendedPosition, Printer}
 
@@ -31,9 +29,3 @@ replyBytes eightbit Status = csi eightbit ++ bodyOf Status
 replyBytes eightbit (Position r c) = csi eightbit ++ bodyOf (Position r c)
 replyBytes eightbit (ExtendedPosition r c) = csi eightbit ++ bodyOf (ExtendedPosition r c)
 replyBytes eightbit Printer = csi eightbit ++ bodyOf Printer
-
--- ---- what the functions that count promise: how many, and the most that any numbers of a byte give, for sums
-
-pub record Counted (bytes : List ℕ) (most r : ℕ) : Type 0 where
-  pub is : r ≡ length bytes
-  pub few : r ≤ most

@@ -1,8 +1,8 @@
 // The cursor: its row, column and wrap due change together.
 use crate::tabs::Tabs;
-use parser::numbers::back;
-use parser::numbers::held;
-use parser::numbers::on;
+use ground::numbers::back;
+use ground::numbers::held;
+use ground::numbers::on;
 ghost use mathlib.Core.Path.{_≡_};
 ghost use Prim.Native.Nat.{_+_, _-_, _*_, _≤_, _<_};
 ghost use Rattle.device.specs.Cursor as moves;

@@ -12,15 +12,15 @@ use Rattle.device.specs.declared.sending.Reply.the-variants.{SecondaryAttribute
 use Rattle.vt.specs.declared.core.Core.{Core}
 use Rattle.vt.specs.Controls.{controlled, c1Controlled}
 use Rattle.vt.specs.Escapes.{escaped}
-use Rattle.vt.specs.Effects.{quiet}
+use Rattle.vt.specs.Effects.{unedited}
 use Rattle.parser.specs.Params.{param, member}
-use Rattle.parser.specs.Families.{isPlain, isMarked, isProtection, isSoftReset}
-use Rattle.csi.specs.Sequences.{marginsTaken, selectProtection, softReset, plainSequence, markedSequence, sequenced}
-use Rattle.parser.proofs.Tests.{or-left, or-right, at-number}
-use Rattle.dispatch.specs.Heard.{controls, c1Controls, plainEscapes, names94, listedEscape, plainFinals, markedFinals, isSecondary, listedSequence}
-use Rattle.dispatch.specs.Heard.{isListed, plainIgnored, markedIgnored, ignoredSequence, isIgnored, unlessIgnored, isHeard, heard}
-use Rattle.dispatch.specs.WrapDue.{keepsWrap, clearsWrap, settled}
-use Rattle.dispatch.specs.Replies.{plainReply, markedReply, reply, replyTo}
+use Rattle.parser.specs.Families.{isPlain, isPrivate, isProtection, isSoftReset}
+use Rattle.csi.specs.Sequences.{marginsTaken, selectProtection, softReset, plainSequence, privateSequence, sequenced}
+use Rattle.ground.proofs.TestLaws.{or-left, or-right, at-number}
+use Rattle.dispatch.specs.Heard.{controls, c1Controls, plainEscapes, names94, listedEscape, plainFinals, privateFinals, isSecondary, listedSequence}
+use Rattle.dispatch.specs.Heard.{isListed, plainIgnored, privateIgnored, ignoredSequence, isIgnored, unlessIgnored, isHeard, heard}
+use Rattle.dispatch.specs.WrapDue.{keepsWrap, clearsWrap, withWrapPolicy}
+use Rattle.dispatch.specs.Replies.{plainReply, privateReply, reply, replyTo}
 use Rattle.dispatch.specs.Decide.{effect, executed}
 
 -- ---- tests
@@ -49,23 +49,23 @@ none-of-three a b c e = (or-left a (b || c) e, or-left b c (or-right a (b || c) 
 
 -- ---- what is not listed has no function
 
-control-quiet : (c : Core) (b : ℕ) → member b controls ≡ false → controlled c b ≡ quiet c
+control-unedited : (c : Core) (b : ℕ) → member b controls ≡ false → controlled c b ≡ unedited c
 unfolding controlled
-control-quiet c b h = rw (o 0x08 refl, o 0x09 refl, o 0x0A refl, o 0x0B refl, o 0x0C refl, o 0x0D refl, o 0x0E refl, o 0x0F refl)
+control-unedited c b h = rw (o 0x08 refl, o 0x09 refl, o 0x0A refl, o 0x0B refl, o 0x0C refl, o 0x0D refl, o 0x0E refl, o 0x0F refl)
   where
     o : (k : ℕ) → member k controls ≡ true → eqb b k ≡ false
     o = other controls b h
 
-c1-quiet : (c : Core) (b : ℕ) → member b c1Controls ≡ false → c1Controlled c b ≡ quiet c
+c1-unedited : (c : Core) (b : ℕ) → member b c1Controls ≡ false → c1Controlled c b ≡ unedited c
 unfolding c1Controlled
-c1-quiet c b h = rw (o 0x84 refl, o 0x85 refl, o 0x88 refl, o 0x8D refl, o 0x8E refl, o 0x8F refl)
+c1-unedited c b h = rw (o 0x84 refl, o 0x85 refl, o 0x88 refl, o 0x8D refl, o 0x8E refl, o 0x8F refl)
   where
     o : (k : ℕ) → member k c1Controls ≡ true → eqb b k ≡ false
     o = other c1Controls b h
 
-escape-quiet : (c : Core) (first second last : ℕ) → listedEscape first second last ≡ false → escaped c first second last ≡ quiet c
+escape-unedited : (c : Core) (first second last : ℕ) → listedEscape first second last ≡ false → escaped c first second last ≡ unedited c
 unfolding escaped
-escape-quiet c first second last =
+escape-unedited c first second last =
     at-number P first 0 plain
     (λ n1. at-number P first 0x20 (λ h. let f = none-of-two (eqb second 0) (eqb last 0x46) (eqb last 0x47) h in rw (f .0, f .1))
     (λ n2. at-number P first 0x23 (λ h. rw h)
@@ -80,7 +80,7 @@ escape-quiet c first second last =
     (rw (ne-eqb first 0x2B n7, ne-eqb first 0x2D n8, ne-eqb first 0x2E n9, ne-eqb first 0x2F n10))))))))))))
   where
     P : ℕ → Type 0
-    P x = listedEscape x second last ≡ false → escaped c x second last ≡ quiet c
+    P x = listedEscape x second last ≡ false → escaped c x second last ≡ unedited c
 
     plain : P 0
     plain h =
@@ -91,43 +91,43 @@ escape-quiet c first second last =
         → ((eqb second 0 && eqb last 0x42) ≡ false) × ((eqb second 0 && eqb last 0x30) ≡ false) × ((eqb second 0x25 && eqb last 0x35) ≡ false)
     unnamed h = none-of-three (eqb second 0 && eqb last 0x42) (eqb second 0 && eqb last 0x30) (eqb second 0x25 && eqb last 0x35) h
 
-plain-quiet : (c : Core) (q : Params) (last : ℕ) → member last plainFinals ≡ false → plainSequence c q last ≡ quiet c
-plain-quiet c q last h =
+plain-unedited : (c : Core) (q : Params) (last : ℕ) → member last plainFinals ≡ false → plainSequence c q last ≡ unedited c
+plain-unedited c q last h =
     rw (o 0x40 refl, o 0x41 refl, o 0x42 refl, o 0x43 refl, o 0x44 refl, o 0x48 refl, o 0x4A refl, o 0x4B refl, o 0x4C refl)
     (rw (o 0x4D refl, o 0x50 refl, o 0x58 refl, o 0x66 refl, o 0x67 refl, o 0x68 refl, o 0x6C refl, o 0x6D refl, o 0x72 refl))
   where
     o : (k : ℕ) → member k plainFinals ≡ true → eqb last k ≡ false
     o = other plainFinals last h
 
-marked-quiet : (c : Core) (q : Params) (last : ℕ) → member last markedFinals ≡ false → markedSequence c q last ≡ quiet c
-marked-quiet c q last h = rw (o 0x4A refl, o 0x4B refl, o 0x68 refl, o 0x6C refl)
+private-unedited : (c : Core) (q : Params) (last : ℕ) → member last privateFinals ≡ false → privateSequence c q last ≡ unedited c
+private-unedited c q last h = rw (o 0x4A refl, o 0x4B refl, o 0x68 refl, o 0x6C refl)
   where
-    o : (k : ℕ) → member k markedFinals ≡ true → eqb last k ≡ false
-    o = other markedFinals last h
+    o : (k : ℕ) → member k privateFinals ≡ true → eqb last k ≡ false
+    o = other privateFinals last h
 
-sequence-quiet : (c : Core) (q : Params) (mark first second last : ℕ) → listedSequence mark first second last ≡ false
-    → sequenced c q mark first second last ≡ quiet c
+sequence-unedited : (c : Core) (q : Params) (mark first second last : ℕ) → listedSequence mark first second last ≡ false
+    → sequenced c q mark first second last ≡ unedited c
 unfolding sequenced
-sequence-quiet c q mark first second last =
-    go (isPlain mark first second) (isMarked mark first second)
+sequence-unedited c q mark first second last =
+    go (isPlain mark first second) (isPrivate mark first second)
     (isSecondary mark first second last) (isProtection mark first second last) (isSoftReset mark first second last)
   where
-    go : (i j s p r : Bool) → cond i (member last plainFinals) (cond j (member last markedFinals) (cond s true (cond p true r))) ≡ false
-        → cond i (plainSequence c q last) (cond j (markedSequence c q last) (cond p (selectProtection c q) (cond r (quiet (softReset c)) (quiet c)))) ≡ quiet c
-    go true j s p r h = plain-quiet c q last h
-    go false true s p r h = marked-quiet c q last h
+    go : (i j s p r : Bool) → cond i (member last plainFinals) (cond j (member last privateFinals) (cond s true (cond p true r))) ≡ false
+        → cond i (plainSequence c q last) (cond j (privateSequence c q last) (cond p (selectProtection c q) (cond r (unedited (softReset c)) (unedited c)))) ≡ unedited c
+    go true j s p r h = plain-unedited c q last h
+    go false true s p r h = private-unedited c q last h
     go false false true p r h = absurd (false≢true (sym h))
     go false false false true r h = absurd (false≢true (sym h))
     go false false false false r h = rw h
 
-pub unlisted-quiet : (c : Core) (a : Action) → isListed a ≡ false → effect c a ≡ quiet c
-unlisted-quiet c Nothing h = refl
-unlisted-quiet c (Character b) h = absurd (false≢true (sym h))
-unlisted-quiet c Substitute h = absurd (false≢true (sym h))
-unlisted-quiet c (Control b) h = control-quiet c b h
-unlisted-quiet c (C1Control b) h = c1-quiet c b h
-unlisted-quiet c (EscapeSequence first second last) h = escape-quiet c first second last h
-unlisted-quiet c (ControlSequence mark first second last) h = sequence-quiet c (c .parser .params) mark first second last h
+pub unlisted-unedited : (c : Core) (a : Action) → isListed a ≡ false → effect c a ≡ unedited c
+unlisted-unedited c Nothing h = refl
+unlisted-unedited c (Character b) h = absurd (false≢true (sym h))
+unlisted-unedited c Substitute h = absurd (false≢true (sym h))
+unlisted-unedited c (Control b) h = control-unedited c b h
+unlisted-unedited c (C1Control b) h = c1-unedited c b h
+unlisted-unedited c (EscapeSequence first second last) h = escape-unedited c first second last h
+unlisted-unedited c (ControlSequence mark first second last) h = sequence-unedited c (c .parser .params) mark first second last h
 
 -- so what is not ignored does what it does, listed or not
 pub heard-effect : (c : Core) (a : Action) → isIgnored c a ≡ false → effect c a ≡ effect c (heard c a)
@@ -135,14 +135,14 @@ heard-effect c a e = rw e (go (isListed a) refl)
   where
     go : (t : Bool) → isListed a ≡ t → effect c a ≡ effect c (cond (t && true) a Nothing)
     go true l = refl
-    go false l = unlisted-quiet c a l
+    go false l = unlisted-unedited c a l
 
 -- and what is ignored does nothing
-pub ignored-quiet : (c : Core) (a : Action) → isIgnored c a ≡ true → quiet c ≡ executed c a
+pub ignored-unedited : (c : Core) (a : Action) → isIgnored c a ≡ true → unedited c ≡ executed c a
 unfolding executed clearsWrap
-ignored-quiet c a e = rw e (go (isListed a))
+ignored-unedited c a e = rw e (go (isListed a))
   where
-    go : (t : Bool) → let x = cond (t && false) a Nothing in quiet c ≡ settled (not (keepsWrap (c .parser .params) x)) (effect c x)
+    go : (t : Bool) → let x = cond (t && false) a Nothing in unedited c ≡ withWrapPolicy (not (keepsWrap (c .parser .params) x)) (effect c x)
     go true = refl
     go false = refl
 
@@ -159,7 +159,7 @@ unfolding executed clearsWrap
 executed-unignored c a = go (isIgnored c a) refl
   where
     go : (t : Bool) → isIgnored c a ≡ t → executed c (cond t Nothing a) ≡ executed c a
-    go true e = ignored-quiet c a e
+    go true e = ignored-unedited c a e
     go false e = refl
 
 -- r that is not ignored has margins that are taken
@@ -180,11 +180,11 @@ plain-silent c q last =
     P : ℕ → Type 0
     P x = (member x plainFinals && not (plainIgnored c q x)) ≡ false → plainReply c q x ≡ Silent
 
-marked-silent : (c : Core) (q : Params) (last : ℕ) → (member last markedFinals && not (markedIgnored q last)) ≡ false → markedReply c q last ≡ Silent
-marked-silent c q last = at-number P last 0x6E (λ h. absurd (false≢true (sym h))) (λ n h. rw (ne-eqb last 0x6E n))
+private-silent : (c : Core) (q : Params) (last : ℕ) → (member last privateFinals && not (privateIgnored q last)) ≡ false → privateReply c q last ≡ Silent
+private-silent c q last = at-number P last 0x6E (λ h. absurd (false≢true (sym h))) (λ n h. rw (ne-eqb last 0x6E n))
   where
     P : ℕ → Type 0
-    P x = (member x markedFinals && not (markedIgnored q x)) ≡ false → markedReply c q x ≡ Silent
+    P x = (member x privateFinals && not (privateIgnored q x)) ≡ false → privateReply c q x ≡ Silent
 
 unheard-silent : (c : Core) (a : Action) → isHeard c a ≡ false → reply c a ≡ Silent
 unheard-silent c Nothing h = refl
@@ -197,18 +197,18 @@ unheard-silent c (C1Control b) h = at-number P b 0x9A (λ h. absurd (false≢tru
     P x = isHeard c (C1Control x) ≡ false → reply c (C1Control x) ≡ Silent
 unheard-silent c (EscapeSequence first second last) h = refl
 unheard-silent c (ControlSequence mark first second last) h =
-    go (isPlain mark first second) (isMarked mark first second)
+    go (isPlain mark first second) (isPrivate mark first second)
     (isSecondary mark first second last) (isProtection mark first second last) (isSoftReset mark first second last) h
   where
     q : Params
     q = c .parser .params
 
     go : (i j s p r : Bool)
-        → (cond i (member last plainFinals) (cond j (member last markedFinals) (cond s true (cond p true r)))
-        && not (cond i (plainIgnored c q last) (j && markedIgnored q last))) ≡ false
-        → cond i (plainReply c q last) (cond j (markedReply c q last) (cond (s && eqb (param q 0) 0) SecondaryAttributes Silent)) ≡ Silent
+        → (cond i (member last plainFinals) (cond j (member last privateFinals) (cond s true (cond p true r)))
+        && not (cond i (plainIgnored c q last) (j && privateIgnored q last))) ≡ false
+        → cond i (plainReply c q last) (cond j (privateReply c q last) (cond (s && eqb (param q 0) 0) SecondaryAttributes Silent)) ≡ Silent
     go true j s p r h = plain-silent c q last h
-    go false true s p r h = marked-silent c q last h
+    go false true s p r h = private-silent c q last h
     go false false true p r h = absurd (false≢true (sym h))
     go false false false p r h = refl
 

@@ -5,22 +5,23 @@ use Prim.Native.Nat.{ℕ}
 use native.Mathlib.Omega.{arith}
 use lib.Dec.{leb}
 use borrow.Author.Tests.{leb-true, not-true, le-ltb, ne-eqb}
-use Rattle.parser.specs.declared.parser.Phase.{Phase}
-use Rattle.parser.specs.declared.parser.Phase.the-variants.{Ground}
-use Rattle.parser.specs.declared.parser.Op.the-variants.{Print}
-use Rattle.parser.specs.declared.parser.Transition.{Transition}
+use Rattle.parser.specs.declared.phases.Phase.{Phase}
+use Rattle.parser.specs.declared.phases.Phase.the-variants.{Ground}
+use Rattle.parser.specs.declared.phases.Op.the-variants.{Print}
+use Rattle.parser.specs.declared.phases.Transition.{Transition}
 use Rattle.parser.specs.declared.parser.Parser.{Parser}
 use Rattle.parser.specs.declared.parser.Action.the-variants.{Character}
 use Rattle.parser.specs.declared.parser.Decoded.{Decoded}
 use Rattle.vt.specs.declared.core.Core.{Core}
-use Rattle.parser.specs.Parser.{between, to, transition, inPhase, kept, asked, decode}
+use Rattle.parser.specs.Parser.{to, transition, inPhase, kept, actionOf, decode}
+use Rattle.ground.specs.Tests.{between}
 use Rattle.vt.specs.Printing.{printed}
 use Rattle.dispatch.specs.WrapDue.{clearsWrap}
 use Rattle.vt.specs.Effects.{withParser}
 use Rattle.device.specs.declared.sending.Reply.the-variants.{Silent}
 use Rattle.dispatch.specs.Replies.{replyTo}
 use Rattle.dispatch.specs.Decide.{executed, decided}
-use Rattle.parser.proofs.Tests.{and-left, and-right}
+use Rattle.ground.proofs.TestLaws.{and-left, and-right}
 
 -- 20 to 7F and A0 to FF
 abbrev pub graphic : ℕ → Bool
@@ -36,7 +37,7 @@ ground-rule b h =
 pub plain-decode : (s : Parser) (b : ℕ) → s .phase ≡ Ground → graphic b ≡ true → decode s b ≡ record { parser = s; action = Character b }
 unfolding decode
 plain-decode s b e h =
-    ap (λ (t : Transition). record { parser = kept s (t .next) (t .op) b; action = asked s (t .op) b })
+    ap (λ (t : Transition). record { parser = kept s (t .next) (t .op) b; action = actionOf s (t .op) b })
     (ap (λ (p : Phase). transition p b) e ∙ ground-rule b h)
     ∙ ap (λ (p : Phase). record { parser = inPhase p s; action = Character b }) (sym e)
 

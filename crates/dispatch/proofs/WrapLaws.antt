@@ -11,9 +11,9 @@ use Rattle.parser.specs.declared.parser.Action.the-variants.{Nothing}
 use Rattle.vt.specs.declared.core.Core.{Core}
 use Rattle.parser.specs.Params.{member}
 use Rattle.parser.specs.Families.{isProtection, isSoftReset}
-use Rattle.parser.proofs.Tests.{and-left, and-right, at-number}
-use Rattle.dispatch.specs.Heard.{plainEscapes, listedEscape, markedFinals, isSecondary, isListed, isIgnored}
-use Rattle.dispatch.specs.WrapDue.{keepingEscapes, escapeKeeps, markedKeeps, keepsWrap, clearsWrap}
+use Rattle.ground.proofs.TestLaws.{and-left, and-right, at-number}
+use Rattle.dispatch.specs.Heard.{plainEscapes, listedEscape, privateFinals, isSecondary, isListed, isIgnored}
+use Rattle.dispatch.specs.WrapDue.{keepingEscapes, escapeKeeps, privateKeeps, keepsWrap, clearsWrap}
 
 -- ---- two tests that agree at each number below n
 
@@ -59,9 +59,9 @@ escape-clears first second last l =
         ≡ (listedEscape x second last && not (escapeKeeps x last))
 
 -- with ?, all but J, K, h and l
-pub marked-rest : (q : Params) (last : ℕ) → (last ≡ 0x4A → ⊥) → (last ≡ 0x4B → ⊥) → (last ≡ 0x68 → ⊥) → (last ≡ 0x6C → ⊥)
-    → false ≡ (member last markedFinals && not (markedKeeps q last))
-marked-rest q last n1 n2 n3 n4 =
+pub private-rest : (q : Params) (last : ℕ) → (last ≡ 0x4A → ⊥) → (last ≡ 0x4B → ⊥) → (last ≡ 0x68 → ⊥) → (last ≡ 0x6C → ⊥)
+    → false ≡ (member last privateFinals && not (privateKeeps q last))
+private-rest q last n1 n2 n3 n4 =
     rw (ne-eqb last 0x4A n1, ne-eqb last 0x4B n2, ne-eqb last 0x68 n3, ne-eqb last 0x6C n4)
     (go (eqb last 0x67) (eqb last 0x6D) (eqb last 0x6E) (eqb last 0x63))
   where

@@ -11,14 +11,14 @@ use Rattle.vt.specs.Controls.{controlled, c1Controlled}
 use Rattle.vt.specs.Escapes.{escaped}
 use Rattle.csi.specs.Sequences.{sequenced}
 use Rattle.dispatch.specs.Heard.{heard}
-use Rattle.dispatch.specs.WrapDue.{clearsWrap, settled}
+use Rattle.dispatch.specs.WrapDue.{clearsWrap, withWrapPolicy}
 use Rattle.dispatch.specs.Replies.{replyTo}
 use Rattle.device.specs.ReplyBytes.{replyBytes}
-use Rattle.vt.specs.Effects.{withParser, quiet}
+use Rattle.vt.specs.Effects.{withParser, unedited}
 
 -- what an action does, but for wrap due
 abbrev pub effect : Core → Action → Decision
-effect c Nothing = quiet c
+effect c Nothing = unedited c
 effect c (Character b) = printed c b
 effect c Substitute = substituted c
 effect c (Control b) = controlled c b
@@ -28,7 +28,7 @@ effect c (ControlSequence mark first second last) = sequenced c (c .parser .para
 
 -- and with it, of what is heard
 unfoldable pub executed : Core → Action → Decision
-executed c a = settled (clearsWrap c a) (effect c (heard c a))
+executed c a = withWrapPolicy (clearsWrap c a) (effect c (heard c a))
 
 -- the parser takes the byte first; its parameters are those of the action
 unfoldable pub decided : Core → ℕ → Decision

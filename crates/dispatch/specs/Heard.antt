@@ -9,7 +9,7 @@ use Rattle.parser.specs.declared.parser.Action.{Action}
 use Rattle.parser.specs.declared.parser.Action.the-variants.{Nothing, Character, Substitute, Control, C1Control, EscapeSequence, ControlSequence}
 use Rattle.vt.specs.declared.core.Core.{Core}
 use Rattle.parser.specs.Params.{param, member}
-use Rattle.parser.specs.Families.{isPlain, isMarked, isProtection, isSoftReset}
+use Rattle.parser.specs.Families.{isPlain, isPrivate, isProtection, isSoftReset}
 use Rattle.csi.specs.Sequences.{marginsTaken}
 
 -- ---- what is listed
@@ -49,8 +49,8 @@ plainFinals =
     ∷ 0x63 ∷ 0x66 ∷ 0x67 ∷ 0x68 ∷ 0x6C ∷ 0x6D ∷ 0x6E ∷ 0x72 ∷ []
 
 -- CSI ? J, K, h, l, n
-abbrev pub markedFinals : List ℕ
-markedFinals = 0x4A ∷ 0x4B ∷ 0x68 ∷ 0x6C ∷ 0x6E ∷ []
+abbrev pub privateFinals : List ℕ
+privateFinals = 0x4A ∷ 0x4B ∷ 0x68 ∷ 0x6C ∷ 0x6E ∷ []
 
 -- CSI > c
 abbrev pub isSecondary : ℕ → ℕ → ℕ → ℕ → Bool
@@ -60,7 +60,7 @@ isSecondary mark first second last = (eqb mark 0x3E && (eqb first 0 && eqb secon
 abbrev pub listedSequence : ℕ → ℕ → ℕ → ℕ → Bool
 listedSequence mark first second last =
     cond (isPlain mark first second) (member last plainFinals)
-    (cond (isMarked mark first second) (member last markedFinals)
+    (cond (isPrivate mark first second) (member last privateFinals)
     (cond (isSecondary mark first second last) true
     (cond (isProtection mark first second last) true
     (isSoftReset mark first second last))))
@@ -88,13 +88,13 @@ plainIgnored c q last =
     (eqb last 0x72 && not (marginsTaken c q)))
 
 -- ? J and ? K likewise
-abbrev pub markedIgnored : Params → ℕ → Bool
-markedIgnored q last = member last (0x4A ∷ 0x4B ∷ []) && ltb 2 (param q 0)
+abbrev pub privateIgnored : Params → ℕ → Bool
+privateIgnored q last = member last (0x4A ∷ 0x4B ∷ []) && ltb 2 (param q 0)
 
 abbrev pub ignoredSequence : Core → Params → ℕ → ℕ → ℕ → ℕ → Bool
 ignoredSequence c q mark first second last =
     cond (isPlain mark first second) (plainIgnored c q last)
-    (isMarked mark first second && markedIgnored q last)
+    (isPrivate mark first second && privateIgnored q last)
 
 abbrev pub isIgnored : Core → Action → Bool
 isIgnored c Nothing = false

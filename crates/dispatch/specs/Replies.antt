@@ -9,12 +9,13 @@ use Rattle.vt.specs.declared.core.Core.{Core}
 use Rattle.device.specs.declared.sending.Reply.{Reply}
 use Rattle.device.specs.declared.sending.Reply.the-variants.{Silent, PrimaryAttributes, SecondaryAttributes, Status, Position, ExtendedPosition, Printer}
 use Rattle.parser.specs.Params.{param}
-use Rattle.parser.specs.Families.{isPlain, isMarked}
+use Rattle.parser.specs.Families.{isPlain, isPrivate}
+use Rattle.vt.specs.Geometry.{firstRow}
 use Rattle.dispatch.specs.Heard.{isSecondary, heard}
 
 -- the cursor's row, counted from T with origin on
 abbrev pub reportedRow : Core → ℕ
-reportedRow c = cond (c .modes .origin) (c .cursor .row - c .margins .top + 1) (c .cursor .row)
+reportedRow c = c .cursor .row - firstRow c + 1
 
 -- c (DA), 5 n (DSR), 6 n (CPR)
 abbrev pub plainReply : Core → Params → ℕ → Reply
@@ -23,9 +24,9 @@ plainReply c q last =
     (cond (eqb last 0x6E && eqb (param q 0) 5) Status
     (cond (eqb last 0x6E && eqb (param q 0) 6) (Position (reportedRow c) (c .cursor .column)) Silent))
 
--- ?6 n (DECXCPR), ?15 n
-abbrev pub markedReply : Core → Params → ℕ → Reply
-markedReply c q last =
+-- ?6 n (DECXCPR), ?15 n (the printer's DSR)
+abbrev pub privateReply : Core → Params → ℕ → Reply
+privateReply c q last =
     cond (eqb last 0x6E && eqb (param q 0) 6) (ExtendedPosition (reportedRow c) (c .cursor .column))
     (cond (eqb last 0x6E && eqb (param q 0) 15) Printer Silent)
 
@@ -33,7 +34,7 @@ markedReply c q last =
 abbrev pub sequenceReply : Core → Params → ℕ → ℕ → ℕ → ℕ → Reply
 sequenceReply c q mark first second last =
     cond (isPlain mark first second) (plainReply c q last)
-    (cond (isMarked mark first second) (markedReply c q last)
+    (cond (isPrivate mark first second) (privateReply c q last)
     (cond (isSecondary mark first second last && eqb (param q 0) 0) SecondaryAttributes Silent))
 
 -- and DECID

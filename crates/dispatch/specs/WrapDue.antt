@@ -10,7 +10,7 @@ use Rattle.parser.specs.declared.parser.Action.the-variants.{Nothing, Character
 use Rattle.vt.specs.declared.core.Core.{Core}
 use Rattle.vt.specs.declared.core.Decision.{Decision}
 use Rattle.parser.specs.Params.{paramList, member}
-use Rattle.parser.specs.Families.{isPlain, isMarked, isProtection}
+use Rattle.parser.specs.Families.{isPlain, isPrivate, isProtection}
 use Rattle.device.specs.Cursor.{noWrap}
 use Rattle.vt.specs.Effects.{withCursor}
 use Rattle.dispatch.specs.Heard.{isSecondary, heard}
@@ -39,8 +39,8 @@ abbrev pub keepingFinals : List ℕ
 keepingFinals = 0x67 ∷ 0x68 ∷ 0x6C ∷ 0x6D ∷ 0x6E ∷ 0x63 ∷ []
 
 -- with ? too; but ?6 and turning autowrap off clear it
-abbrev pub markedKeeps : Params → ℕ → Bool
-markedKeeps q last =
+abbrev pub privateKeeps : Params → ℕ → Bool
+privateKeeps q last =
     cond (eqb last 0x68) (not (member 6 (paramList q)))
     (cond (eqb last 0x6C) (not (member 6 (paramList q) || member 7 (paramList q)))
     (member last keepingFinals))
@@ -49,7 +49,7 @@ markedKeeps q last =
 abbrev pub sequenceKeeps : Params → ℕ → ℕ → ℕ → ℕ → Bool
 sequenceKeeps q mark first second last =
     cond (isPlain mark first second) (member last keepingFinals)
-    (cond (isMarked mark first second) (markedKeeps q last)
+    (cond (isPrivate mark first second) (privateKeeps q last)
     (isSecondary mark first second last || isProtection mark first second last))
 
 -- printing sets it by itself
@@ -66,6 +66,6 @@ unfoldable pub clearsWrap : Core → Action → Bool
 clearsWrap c a = not (keepsWrap (c .parser .params) (heard c a))
 
 -- the policy is put into effect
-abbrev pub settled : Bool → Decision → Decision
-settled true d = record { core = withCursor (d .core) (noWrap (d .core .cursor)); first = d .first; second = d .second }
-settled false d = d
+abbrev pub withWrapPolicy : Bool → Decision → Decision
+withWrapPolicy true d = record { core = withCursor (d .core) (noWrap (d .core .cursor)); first = d .first; second = d .second }
+withWrapPolicy false d = d

@@ -1,14 +1,14 @@
 // An action: the next core, and at most two edits.
 use crate::heard::unless_ignored;
+use crate::wrap::apply_wrap_policy;
 use crate::wrap::clears_wrap;
-use crate::wrap::settle;
 use csi::sequences::sequence;
 use parser::parser::Action;
 use vt::controls::c1_control;
 use vt::controls::control;
 use vt::core::Core;
 use vt::core::Decision;
-use vt::effects::quiet;
+use vt::effects::unedited;
 use vt::escapes::escape;
 use vt::printing::print;
 use vt::printing::substitute;
@@ -24,7 +24,7 @@ fn effect(core: Core, action: Action) -> Decision
     ensures { λ r. ⌜ r ≡ decisions.effect core action ⌝ }
 {
     match action {
-        Action::Nothing => quiet(core),
+        Action::Nothing => unedited(core),
         Action::Character { byte } => print(core, byte),
         Action::Substitute => substitute(core),
         Action::Control { byte } => control(core, byte),
@@ -53,5 +53,5 @@ pub fn execute(core: Core, action: Action) -> Decision
 {
     let action = unless_ignored(core, action);
     let clears = clears_wrap(core, action);
-    settle(clears, effect(core, action))
+    apply_wrap_policy(clears, effect(core, action))
 }

@@ -1,7 +1,7 @@
 // What is heard: an action that is ignored here and now is nothing. What is not listed does nothing by itself.
 use csi::modes::margins_taken;
-use parser::families::is_marked;
 use parser::families::is_plain;
+use parser::families::is_private;
 use parser::params::Params;
 use parser::parser::Action;
 use vt::core::Core;
@@ -20,20 +20,20 @@ fn plain_ignored(core: Core, params: Params, last: u8) -> bool
     ensures { λ r. ⌜ r ≡ hearing.plainIgnored core params last ⌝ }
 {
     match last {
-        0x40 => !inside_margins(core),
-        0x4A => 2 < params.get(0),
-        0x4B => 2 < params.get(0),
-        0x4C => !inside_margins(core),
-        0x4D => !inside_margins(core),
-        0x50 => !inside_margins(core),
-        0x72 => !margins_taken(core, params),
+        0x40 => !inside_margins(core), // ICH
+        0x4A => 2 < params.get(0), // ED
+        0x4B => 2 < params.get(0), // EL
+        0x4C => !inside_margins(core), // IL
+        0x4D => !inside_margins(core), // DL
+        0x50 => !inside_margins(core), // DCH
+        0x72 => !margins_taken(core, params), // DECSTBM
         _ => false,
     }
 }
 
 // DECSED, DECSEL likewise.
-fn marked_ignored(params: Params, last: u8) -> bool
-    ensures { λ r. ⌜ r ≡ hearing.markedIgnored params last ⌝ }
+fn private_ignored(params: Params, last: u8) -> bool
+    ensures { λ r. ⌜ r ≡ hearing.privateIgnored params last ⌝ }
 {
     ((last == 0x4A) | (last == 0x4B)) & (2 < params.get(0))
 }
@@ -44,7 +44,7 @@ fn ignored_sequence(core: Core, params: Params, mark: u8, first: u8, second: u8,
     if is_plain(mark, first, second) {
         return plain_ignored(core, params, last);
     }
-    is_marked(mark, first, second) & marked_ignored(params, last)
+    is_private(mark, first, second) & private_ignored(params, last)
 }
 
 fn is_ignored(core: Core, action: Action) -> bool

@@ -1,27 +1,27 @@
 // What the terminal sends back: which reply an action draws.
 use device::sending::Reply;
-use parser::families::is_marked;
+use ground::numbers::back;
 use parser::families::is_plain;
-use parser::numbers::back;
-use parser::numbers::pick;
+use parser::families::is_private;
 use parser::params::Params;
 use parser::parser::Action;
 use vt::core::Core;
+use vt::geometry::first_row;
 ghost use mathlib.Core.Path.{_≡_};
 ghost use mathlib.Core.Bool.{cond};
 ghost use lib.Dec.{eqb};
 ghost use Rattle.vt.specs.Bounds.{Bounds};
 ghost use Rattle.device.specs.declared.sending.Reply.the-variants.{Silent, PrimaryAttributes};
 ghost use Rattle.dispatch.specs.Heard.{isSecondary};
-ghost use Rattle.dispatch.specs.Replies.{reportedRow, plainReply, markedReply, sequenceReply, replyTo};
+ghost use Rattle.dispatch.specs.Replies.{reportedRow, plainReply, privateReply, sequenceReply, replyTo};
 
 // The cursor's row, counted from T with origin on.
 fn reported_row(core: Core) -> u8
     requires { ⌜ Bounds core ⌝ }
     ensures { λ r. ⌜ r ≡ reportedRow core ⌝ }
 {
-    let first = pick(core.modes.origin, core.margins.top, 1);
-    back(core.cursor.row, first as u16, 0) + 1
+    let first = first_row(core) as u16;
+    back(core.cursor.row, first, 0) + 1
 }
 
 // DA, DSR, CPR.
@@ -30,12 +30,15 @@ fn plain_reply(core: Core, params: Params, last: u8) -> Reply
     ensures { λ r. ⌜ r ≡ plainReply core params last ⌝ }
 {
     let selector = params.get(0);
+    // DA
     if (last == 0x63) & (selector == 0) {
         return Reply::PrimaryAttributes;
     }
+    // DSR
     if (last == 0x6E) & (selector == 5) {
         return Reply::Status;
     }
+    // CPR
     if (last == 0x6E) & (selector == 6) {
         return Reply::Position {
             row: reported_row(core),
@@ -46,17 +49,19 @@ fn plain_reply(core: Core, params: Params, last: u8) -> Reply
 }
 
 // DECXCPR and the printer's DSR.
-fn marked_reply(core: Core, params: Params, last: u8) -> Reply
+fn private_reply(core: Core, params: Params, last: u8) -> Reply
     requires { ⌜ Bounds core ⌝ }
-    ensures { λ r. ⌜ r ≡ markedReply core params last ⌝ }
+    ensures { λ r. ⌜ r ≡ privateReply core params last ⌝ }
 {
     let selector = params.get(0);
+    // DECXCPR
     if (last == 0x6E) & (selector == 6) {
         return Reply::ExtendedPosition {
             row: reported_row(core),
             column: core.cursor.column,
         };
     }
+    // the printer's DSR
     if (last == 0x6E) & (selector == 15) {
         return Reply::Printer;
     }
@@ -78,8 +83,8 @@ fn sequence_reply(core: Core, mark: u8, first: u8, second: u8, last: u8) -> Repl
     if is_plain(mark, first, second) {
         return plain_reply(core, params, last);
     }
-    if is_marked(mark, first, second) {
-        return marked_reply(core, params, last);
+    if is_private(mark, first, second) {
+        return private_reply(core, params, last);
     }
     if is_secondary(mark, first, second, last) & (params.get(0) == 0) {
         return Reply::SecondaryAttributes;

@@ -1,10 +1,9 @@
 // Wrap due: the one policy, over what is heard. The code tests what clears it, which is less than what keeps it.
-use parser::families::is_marked;
 use parser::families::is_plain;
+use parser::families::is_private;
 use parser::families::is_soft_reset;
 use parser::params::Params;
 use parser::parser::Action;
-use parser::rules::between;
 use vt::core::Core;
 use vt::core::Decision;
 ghost use mathlib.Core.Path.{_≡_};
@@ -13,11 +12,20 @@ ghost use Rattle.parser.specs.Params.{member};
 ghost use Rattle.dispatch.specs.Heard as hearing;
 ghost use Rattle.dispatch.specs.WrapDue as wrap;
 
-// BS, HT, LF, VT, FF, CR.
 fn control_clears(byte: u8) -> bool
     ensures { λ r. ⌜ r ≡ member byte hearing.controls && not (member byte wrap.keepingControls) ⌝ }
 {
-    between(0x08, byte, 0x0D)
+    match byte {
+        0x08 => true, // BS
+        0x09 => true, // HT
+        0x0A => true, // LF
+        0x0B => true, // VT
+        0x0C => true, // FF
+        0x0D => true, // CR
+        0x0E => false, // SO
+        0x0F => false, // SI
+        _ => false,
+    }
 }
 
 // IND, NEL, RI.
@@ -57,14 +65,14 @@ fn plain_clears(last: u8) -> bool
 }
 
 // DECSED, DECSEL; ?6 set or reset; ?7 reset.
-fn marked_clears(params: Params, last: u8) -> bool
-    ensures { λ r. ⌜ r ≡ member last hearing.markedFinals && not (wrap.markedKeeps params last) ⌝ }
+fn private_clears(params: Params, last: u8) -> bool
+    ensures { λ r. ⌜ r ≡ member last hearing.privateFinals && not (wrap.privateKeeps params last) ⌝ }
 {
     match last {
-        0x4A => true,
-        0x4B => true,
-        0x68 => params.has(6),
-        0x6C => params.has(6) | params.has(7),
+        0x4A => true, // DECSED
+        0x4B => true, // DECSEL
+        0x68 => params.has(6), // SM
+        0x6C => params.has(6) | params.has(7), // RM
         _ => false,
     }
 }
@@ -75,8 +83,8 @@ fn sequence_clears(params: Params, mark: u8, first: u8, second: u8, last: u8) ->
     if is_plain(mark, first, second) {
         return plain_clears(last);
     }
-    if is_marked(mark, first, second) {
-        return marked_clears(params, last);
+    if is_private(mark, first, second) {
+        return private_clears(params, last);
     }
     is_soft_reset(mark, first, second, last)
 }
@@ -107,8 +115,8 @@ pub fn clears_wrap(core: Core, action: Action) -> bool
 }
 
 // The policy is put into effect, where the cursor lies in the decision (docs/DECISIONS.md, "Shape").
-pub fn settle(clears: bool, mut decision: Decision) -> Decision
-    ensures { λ r. ⌜ r ≡ wrap.settled clears decision ⌝ }
+pub fn apply_wrap_policy(clears: bool, mut decision: Decision) -> Decision
+    ensures { λ r. ⌜ r ≡ wrap.withWrapPolicy clears decision ⌝ }
 {
     if clears {
         decision.core.cursor.wrap = false;

@@ -5,19 +5,22 @@ use mathlib.Core.List.{List}
 use Prim.Native.Nat.{ℕ}
 use Rattle.terminal.specs.declared.Answer.{Answer}
 use Rattle.terminal.specs.declared.Answer.the-variants.{Done, Broken, WrongSize, NoRoom, OffPage}
-use Rattle.terminal.specs.declared.State.{State}
+use Rattle.steps.specs.declared.State.{State}
 use Rattle.terminal.specs.declared.Started.{Started}
 use Rattle.terminal.specs.declared.Fed.{Fed}
 use Rattle.terminal.specs.declared.Asked.{Asked}
 use Rattle.terminal.specs.declared.CellRead.{CellRead}
+use Rattle.terminal.specs.declared.CursorRead.{CursorRead}
 use Rattle.terminal.specs.Answers.{number, refusal}
 use Rattle.terminal.specs.Start.{Start, startAs, started}
 use Rattle.terminal.specs.Feed.{Feed, feedAs, fed, feedGives, feedAnswer}
 use Rattle.terminal.specs.Ask.{Ask, asked, askGives, askAnswer}
 use Rattle.terminal.specs.Read.{Read, cellRead}
+use Rattle.terminal.specs.CursorRead.{CursorReading, cursorRead}
 use Rattle.pankholim.specs.declared.record.Terminal.{Terminal}
+use Rattle.pankholim.specs.Numbers.{flagNumber}
 use Rattle.pankholim.specs.Record.{stateOf}
-use Rattle.pankholim.specs.Leaves.{left, StartLeaves, FeedLeaves, AskLeaves, ReadLeaves}
+use Rattle.pankholim.specs.Leaves.{left, StartLeaves, FeedLeaves, AskLeaves, ReadLeaves, CursorLeaves}
 use Rattle.pankholim.proofs.RecordLaws.{state-left, state-returned}
 
 -- ---- a refused call returns the state as it came
@@ -99,4 +102,18 @@ read-leaves t s p row column d r es ed er =
     record {
       answer-is = er ∙ ap (λ (x : Read). x .number) same;
       word-is = ap (λ (x : Read). x .result .word) same;
+    }
+
+pub cursor-leaves : (t : Terminal) (s : State) (d : CursorRead) (r wrap shown : ℕ)
+    → s ≡ stateOf t → record { number = number (d .answer); result = d } ≡ cursorRead s
+    → wrap ≡ flagNumber (d .wrap) → shown ≡ flagNumber (d .shown) → r ≡ number (d .answer)
+    → CursorLeaves (cursorRead (stateOf t)) r (d .row) (d .column) wrap shown
+cursor-leaves t s d r wrap shown es ed ew eh er =
+    let same = ed ∙ ap cursorRead es in
+    record {
+      answer-is = er ∙ ap (λ (x : CursorReading). x .number) same;
+      row-is = ap (λ (x : CursorReading). x .result .row) same;
+      column-is = ap (λ (x : CursorReading). x .result .column) same;
+      wrap-is = ew ∙ ap (λ (x : CursorReading). flagNumber (x .result .wrap)) same;
+      shown-is = eh ∙ ap (λ (x : CursorReading). flagNumber (x .result .shown)) same;
     }

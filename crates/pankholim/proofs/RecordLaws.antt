@@ -18,15 +18,16 @@ use Rattle.vt.specs.declared.core.Modes.{Modes}
 use Rattle.vt.specs.declared.core.Saved.{Saved}
 use Rattle.device.specs.declared.cursor.Cursor.{Cursor}
 use Rattle.parser.specs.declared.parser.Parser.{Parser}
-use Rattle.parser.specs.declared.parser.Phase.{Phase}
-use Rattle.parser.specs.declared.parser.Phase.the-variants.{Ground, Escape, EscapeOne, EscapeTwo, EscapeIgnore, CsiEntry, CsiParam, CsiOne, CsiTwo, CsiIgnore, StringText}
+use Rattle.parser.specs.declared.phases.Phase.{Phase}
+use Rattle.parser.specs.declared.phases.Phase.the-variants.{Ground, Escape, EscapeOne, EscapeTwo, EscapeIgnore, CsiEntry, CsiParam, CsiOne, CsiTwo, CsiIgnore, StringText}
 use Rattle.terminal.specs.declared.Answer.{Answer}
 use Rattle.terminal.specs.declared.Answer.the-variants.{Done, Broken, WrongSize, NoRoom, OffPage}
-use Rattle.terminal.specs.declared.State.{State}
+use Rattle.steps.specs.declared.State.{State}
 use Rattle.terminal.specs.Answers.{refusal}
 use Rattle.pankholim.specs.declared.record.Terminal.{Terminal}
 use Rattle.device.specs.Charsets.{registerNumber, registerOf, shiftNumber, shiftOf}
-use Rattle.parser.specs.Phases.{phaseNumber, phaseOf}
+use Rattle.parser.specs.Phases.{phaseNumber}
+use Rattle.parser.proofs.PhaseLaws.{phase-back}
 use Rattle.pankholim.specs.Numbers.{flagNumber, flagOf}
 use Rattle.pankholim.specs.Record.{cursorRecord, cursorOf, modesRecord, modesOf, renditionRecord, renditionOf, setsRecord, setsOf, savedRecord, savedOf, parserRecord, parserOf, recordOf, coreOf, stateOf, named, renditionNamed, modesNamed, setsNamed, savedNamed}
 use Rattle.pankholim.specs.Leaves.{left}
@@ -74,19 +75,6 @@ shift-named : (s : SingleShift) → ltb (shiftNumber s) 3 ≡ true
 shift-named NoShift = refl
 shift-named Ss2 = refl
 shift-named Ss3 = refl
-
-phase-back : (p : Phase) → phaseOf (phaseNumber p) ≡ p
-phase-back Ground = refl
-phase-back Escape = refl
-phase-back EscapeOne = refl
-phase-back EscapeTwo = refl
-phase-back EscapeIgnore = refl
-phase-back CsiEntry = refl
-phase-back CsiParam = refl
-phase-back CsiOne = refl
-phase-back CsiTwo = refl
-phase-back CsiIgnore = refl
-phase-back StringText = refl
 
 phase-named : (p : Phase) → ltb (phaseNumber p) 11 ≡ true
 phase-named Ground = refl
@@ -193,7 +181,7 @@ rows-back s = ap (λ (t : Bool). cond t (s .core .rows) 0) (state-named s)
 
 pub state-back : (s : State) → stateOf (recordOf s) ≡ s
 unfolding stateOf recordOf
-state-back s = λ i. record { core = core-back s _ (rows-back s) i; changed = s .changed }
+state-back s = λ i. record { core = core-back s _ (rows-back s) i; tracked = s .tracked }
 
 -- ---- the unused bytes
 

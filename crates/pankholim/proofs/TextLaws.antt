@@ -6,21 +6,21 @@ use Prim.Native.Nat.{ℕ}
 use lib.Dec.{leb}
 use lib.ListN.{length}
 use Rattle.text.specs.declared.Written.{Written}
-use Rattle.text.specs.declared.Written.the-variants.{Whole, NoRoom}
+use Rattle.text.specs.declared.Written.the-variants.{Complete, TooSmall}
 use Rattle.text.specs.Text.{pageText, writtenNumber, written, Write, writeAs, writeGives}
 use Rattle.pankholim.specs.Leaves.{WriteLeaves}
 
 -- the bytes that a text takes, as an answer has them
 abbrev taken : ℕ → Written → ℕ
-taken n (Whole m) = m
-taken n NoRoom = n
+taken n (Complete m) = m
+taken n TooSmall = n
 
 module _ (p o : List ℕ) where
   taken-is : taken (length (pageText p)) (written p o .result) ≡ length (pageText p)
   unfolding written
   taken-is = by-answer (leb (length (pageText p)) (length o))
     where
-      by-answer : (t : Bool) → taken (length (pageText p)) (writeGives (cond t (Whole (length (pageText p))) NoRoom) (pageText p) o .result) ≡ length (pageText p)
+      by-answer : (t : Bool) → taken (length (pageText p)) (writeGives (cond t (Complete (length (pageText p))) TooSmall) (pageText p) o .result) ≡ length (pageText p)
       by-answer true = refl
       by-answer false = refl
 
@@ -28,14 +28,14 @@ module _ (p o : List ℕ) where
     e : written p o ≡ writeAs w b
     e = sym done
 
-    pub leaves-whole : (n : ℕ) → w ≡ Whole n → WriteLeaves p o 0 b n
+    pub leaves-whole : (n : ℕ) → w ≡ Complete n → WriteLeaves p o 0 b n
     leaves-whole n is = record {
       answer-is = sym (ap (λ (d : Write). d .number) e ∙ ap writtenNumber is);
       out-is = sym (ap (λ (d : Write). d .buffer) e);
       len-is = sym (ap (taken (length (pageText p))) is) ∙ sym (ap (λ (d : Write). taken (length (pageText p)) (d .result)) e) ∙ taken-is;
     }
 
-    pub leaves-none : (n : ℕ) → w ≡ NoRoom → n ≡ length (pageText p) → WriteLeaves p o 3 b n
+    pub leaves-none : (n : ℕ) → w ≡ TooSmall → n ≡ length (pageText p) → WriteLeaves p o 3 b n
     leaves-none n is len = record {
       answer-is = sym (ap (λ (d : Write). d .number) e ∙ ap writtenNumber is);
       out-is = sym (ap (λ (d : Write). d .buffer) e);

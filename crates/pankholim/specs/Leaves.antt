@@ -5,14 +5,16 @@ use mathlib.Core.Path.{_≡_}
 use Prim.Native.Nat.{ℕ}
 use lib.ListN.{length}
 use Rattle.terminal.specs.declared.Answer.{Answer}
-use Rattle.terminal.specs.declared.State.{State}
+use Rattle.steps.specs.declared.State.{State}
 use Rattle.terminal.specs.Answers.{number, refusal}
 use Rattle.terminal.specs.Start.{Start}
 use Rattle.terminal.specs.Feed.{Feed}
 use Rattle.terminal.specs.Ask.{Ask}
 use Rattle.terminal.specs.Read.{Read}
+use Rattle.terminal.specs.CursorRead.{CursorReading}
 use Rattle.text.specs.Text.{pageText, written}
 use Rattle.pankholim.specs.declared.record.Terminal.{Terminal}
+use Rattle.pankholim.specs.Numbers.{flagNumber}
 use Rattle.pankholim.specs.Record.{stateOf, recordOf}
 
 -- the record that a call leaves: refused, as it came, else that of the state returned
@@ -49,6 +51,14 @@ pub record AskLeaves (t : Terminal) (d : Ask) (r : ℕ) (terminal : Terminal) (r
 pub record ReadLeaves (d : Read) (r word : ℕ) : Type 0 where
   pub answer-is : r ≡ d .number
   pub word-is : word ≡ d .result .word
+
+-- d is `cursorRead` of a record's state; the number returned, and the row, the column and the two flags at exit
+pub record CursorLeaves (d : CursorReading) (r row column wrap shown : ℕ) : Type 0 where
+  pub answer-is : r ≡ d .number
+  pub row-is : row ≡ d .result .row
+  pub column-is : column ≡ d .result .column
+  pub wrap-is : wrap ≡ flagNumber (d .result .wrap)
+  pub shown-is : shown ≡ flagNumber (d .result .shown)
 
 -- a page and a buffer; the number returned, and the buffer and the bytes that the text takes at exit
 pub record WriteLeaves (p o : List ℕ) (r : ℕ) (out : List ℕ) (len : ℕ) : Type 0 where

@@ -1,3 +1,4 @@
 pub mod Numbers
 pub mod Record
 pub mod Leaves
+pub mod Version

@@ -12,7 +12,7 @@ use Rattle.vt.specs.declared.core.Modes.{Modes}
 use Rattle.vt.specs.declared.core.Saved.{Saved}
 use Rattle.device.specs.declared.cursor.Cursor.{Cursor}
 use Rattle.parser.specs.declared.parser.Parser.{Parser}
-use Rattle.terminal.specs.declared.State.{State}
+use Rattle.steps.specs.declared.State.{State}
 use Rattle.pankholim.specs.declared.record.CursorRecord.{CursorRecord}
 use Rattle.pankholim.specs.declared.record.ModesRecord.{ModesRecord}
 use Rattle.pankholim.specs.declared.record.RenditionRecord.{RenditionRecord}
@@ -76,7 +76,7 @@ parserRecord p = record {
 
 unfoldable pub recordOf : State → Terminal
 recordOf s = record {
-  changed = s .changed;
+  changed = s .tracked .changed;
   values = s .core .parser .params .values;
   tabs = s .core .tabs .flags;
   rows = s .core .rows;
@@ -185,4 +185,4 @@ named t =
 
 -- without rows where a number names nothing: no call takes such a state
 unfoldable pub stateOf : Terminal → State
-stateOf t = record { core = coreOf t (cond (named t) (t .rows) 0); changed = t .changed }
+stateOf t = record { core = coreOf t (cond (named t) (t .rows) 0); tracked = record { changed = t .changed } }

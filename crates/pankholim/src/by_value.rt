@@ -1,9 +1,10 @@
 // The calls with the record by value: what each leaves of it is returned.
+use crate::numbers::flag_number;
 use crate::record::Terminal;
 use crate::record::record_of;
 use crate::state::state_of;
+use steps::State;
 use terminal::Answer;
-use terminal::State;
 use terminal::answers::number;
 use terminal::calls;
 ghost use mathlib.Core.Path.{_≡_};
@@ -12,6 +13,7 @@ ghost use Rattle.terminal.specs.Start.{started};
 ghost use Rattle.terminal.specs.Feed.{fed};
 ghost use Rattle.terminal.specs.Ask.{asked};
 ghost use Rattle.terminal.specs.Read.{cellRead};
+ghost use Rattle.terminal.specs.CursorRead.{cursorRead};
 ghost use Rattle.pankholim.specs.Record.{stateOf};
 ghost use Rattle.pankholim.specs.Leaves as leaving;
 
@@ -92,6 +94,24 @@ pub fn read(terminal: Terminal, page: &[u16], row: usize, column: usize, word: &
 {
     let done = calls::read(state_of(terminal), page, row, column);
     *word = done.word;
+    let answer = done.answer;
+    number(answer)
+}
+
+pub fn cursor(
+    terminal: Terminal,
+    row: &mut usize,
+    column: &mut usize,
+    wrap: &mut u8,
+    shown: &mut u8,
+) -> u8
+    ensures { λ r. ⌜ leaving.CursorLeaves (cursorRead (stateOf terminal)) r (now (row .exit)) (now (column .exit)) (now (wrap .exit)) (now (shown .exit)) ⌝ }
+{
+    let done = calls::cursor(state_of(terminal));
+    *row = done.row as usize;
+    *column = done.column as usize;
+    *wrap = flag_number(done.wrap);
+    *shown = flag_number(done.shown);
     let answer = done.answer;
     number(answer)
 }

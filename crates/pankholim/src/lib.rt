@@ -14,9 +14,25 @@ ghost use Rattle.terminal.specs.Start.{started};
 ghost use Rattle.terminal.specs.Feed.{fed};
 ghost use Rattle.terminal.specs.Ask.{asked};
 ghost use Rattle.terminal.specs.Read.{cellRead};
+ghost use Rattle.terminal.specs.CursorRead.{cursorRead};
 ghost use Rattle.text.specs.Text.{pageText};
 ghost use Rattle.pankholim.specs.Record.{stateOf};
-ghost use Rattle.pankholim.specs.Leaves.{StartLeaves, FeedLeaves, AskLeaves, ReadLeaves, WriteLeaves};
+ghost use Rattle.pankholim.specs.Leaves.{StartLeaves, FeedLeaves, AskLeaves, ReadLeaves, CursorLeaves, WriteLeaves};
+ghost use Rattle.pankholim.specs.Version.{version};
+
+const MAJOR: u32 = 0;
+
+const MINOR: u32 = 1;
+
+const PATCH: u32 = 0;
+
+// The library's version, as one number.
+#[no_mangle]
+pub extern "C" fn pankholim_version() -> u32
+    ensures { λ r. ⌜ r ≡ version ⌝ }
+{
+    MAJOR * 65536 + MINOR * 256 + PATCH
+}
 
 // Starts a terminal of 24, 36 or 48 rows: every cell blank, the record fresh, whatever it was. Refused, it leaves both.
 #[no_mangle]
@@ -69,6 +85,21 @@ pub extern "C" fn pankholim_read(
     by_value::read(*terminal, page, row, column, word)
 }
 
+// Reads the cursor: its row and column on the page, counted from 1, whatever origin mode says, whether a
+// wrap is due, and whether it is shown.
+#[no_mangle]
+pub extern "C" fn pankholim_cursor(
+    terminal: &Terminal,
+    row: &mut usize,
+    column: &mut usize,
+    wrap: &mut u8,
+    shown: &mut u8,
+) -> u8
+    ensures { λ r. ⌜ CursorLeaves (cursorRead (stateOf (now (terminal .entry)))) r (now (row .exit)) (now (column .exit)) (now (wrap .exit)) (now (shown .exit)) ⌝ }
+{
+    by_value::cursor(*terminal, row, column, wrap, shown)
+}
+
 // How many bytes the text of a page takes.
 #[no_mangle]
 pub extern "C" fn pankholim_text_len(page: &[u16]) -> usize
@@ -84,11 +115,11 @@ pub extern "C" fn pankholim_write_text(page: &[u16], out: &mut [u8], len: &mut u
     ensures { λ r. ⌜ WriteLeaves (now (page .entry)) (now (out .entry)) r (now (out .exit)) (now (len .exit)) ⌝ }
 {
     match write_text(page, out) {
-        Written::Whole { len: n } => {
+        Written::Complete { len: n } => {
             *len = n;
             0
         }
-        Written::NoRoom => {
+        Written::TooSmall => {
             *len = text_len(page);
             3
         }

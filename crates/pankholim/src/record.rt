@@ -8,7 +8,7 @@ use device::charsets::shift_number;
 use device::cursor::Cursor;
 use parser::parser::Parser;
 use parser::phases::phase_number;
-use terminal::State;
+use steps::State;
 use vt::core::Modes;
 use vt::core::Saved;
 ghost use mathlib.Core.Path.{_≡_};
@@ -179,7 +179,7 @@ pub fn record_of(state: State) -> Terminal
     let shift = core.shift;
     let unused = [0; 3];
     Terminal {
-        changed: state.changed,
+        changed: state.tracked.changed,
         values,
         tabs,
         rows: core.rows,

@@ -17,7 +17,8 @@ use device::tabs::Tabs;
 use parser::params::Params;
 use parser::parser::Parser;
 use parser::phases::phase_of;
-use terminal::State;
+use steps::State;
+use steps::Tracked;
 use vt::core::Core;
 use vt::core::Margins;
 use vt::core::Modes;
@@ -188,11 +189,15 @@ pub fn state_of(terminal: Terminal) -> State
     if !named(terminal) {
         return State {
             core: core_of(terminal, 0),
-            changed: terminal.changed,
+            tracked: Tracked {
+                changed: terminal.changed,
+            },
         };
     }
     State {
         core: core_of(terminal, terminal.rows),
-        changed: terminal.changed,
+        tracked: Tracked {
+            changed: terminal.changed,
+        },
     }
 }

@@ -1,5 +1,4 @@
-pub mod Tests
-pub mod Choice
+pub mod PhaseLaws
 pub mod ParamLaws
 pub mod RuleLaws
 pub mod Spans

@@ -1,7 +1,6 @@
-// The parser: parameters, phases, and what a byte asks for; and numbers that are held to a bound.
+// The parser: parameters, phases, and what a byte asks for.
 pub mod families;
 pub mod idle;
-pub mod numbers;
 pub mod params;
 pub mod parser;
 pub mod phases;

@@ -1,56 +1,14 @@
 // The parser: where it stands in a sequence, and what a byte asks for.
-use crate::numbers::pick;
 use crate::params::Params;
-use crate::rules::between;
-use crate::rules::intermediates;
-use crate::rules::takes_parameters;
+use crate::phases::Op;
+use crate::phases::Phase;
+use crate::phases::intermediates;
+use crate::phases::takes_parameters;
 use crate::rules::transition;
+use ground::numbers::pick;
+use ground::tests::between;
 ghost use mathlib.Core.Path.{_≡_};
 ghost use Rattle.parser.specs.Parser as parsing;
-
-// Where the parser stands. The phase tells how many of the intermediates count.
-pub enum Phase {
-    Ground,
-    Escape,
-    EscapeOne,
-    EscapeTwo,
-    EscapeIgnore,
-    CsiEntry,
-    CsiParam,
-    CsiOne,
-    CsiTwo,
-    CsiIgnore,
-    StringText,
-}
-
-// What is done with a byte.
-pub enum Op {
-    Ignore,
-    // A graphic character in ground.
-    Print,
-    // SUB.
-    Sub,
-    // A control below 20.
-    Execute,
-    // A control 80 to 9F, or its form with ESC.
-    C1,
-    // A sequence starts.
-    Clear,
-    // An intermediate.
-    Collect,
-    // A private mark.
-    Mark,
-    // A digit or 3B.
-    Param,
-    EscDispatch,
-    CsiDispatch,
-}
-
-// The range rules: the next phase and what is done, by the phase and the byte alone.
-pub struct Transition {
-    pub next: Phase,
-    pub op: Op,
-}
 
 // `mark` is 0 where the sequence has none. `first` and `second` are the intermediates.
 pub struct Parser {
@@ -145,8 +103,8 @@ impl Parser {
         }
     }
 
-    fn marked(self, phase: Phase, x: u8) -> Self
-        ensures { λ r. ⌜ r ≡ parsing.marked phase self x ⌝ }
+    fn with_mark(self, phase: Phase, x: u8) -> Self
+        ensures { λ r. ⌜ r ≡ parsing.withMark phase self x ⌝ }
     {
         let params = self.params;
         Parser {
@@ -178,7 +136,7 @@ impl Parser {
         match op {
             Op::Clear => Parser::cleared(next),
             Op::Collect => self.collected(next, byte % 128),
-            Op::Mark => self.marked(next, byte % 128),
+            Op::Mark => self.with_mark(next, byte % 128),
             Op::Param => self.gathered(next, byte % 128),
             _ => self.in_phase(next),
         }
@@ -200,8 +158,8 @@ impl Parser {
     }
 
     // What a byte asks for.
-    fn asked(self, op: Op, byte: u8) -> Action
-        ensures { λ r. ⌜ r ≡ parsing.asked self op byte ⌝ }
+    fn action_of(self, op: Op, byte: u8) -> Action
+        ensures { λ r. ⌜ r ≡ parsing.actionOf self op byte ⌝ }
     {
         match op {
             Op::Print => Action::Character { byte },
@@ -246,7 +204,7 @@ impl Parser {
         let op = step.op;
         Decoded {
             parser: self.kept(next, op, byte),
-            action: self.asked(op, byte),
+            action: self.action_of(op, byte),
         }
     }
 }

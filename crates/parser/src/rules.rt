@@ -1,20 +1,25 @@
 // The range rules: what the parser does with a byte in each phase, for all 256 bytes.
-use crate::parser::Op;
-use crate::parser::Phase;
-use crate::parser::Transition;
+use crate::phases::CSI_ENTRY;
+use crate::phases::CSI_IGNORE;
+use crate::phases::CSI_ONE;
+use crate::phases::CSI_PARAM;
+use crate::phases::CSI_TWO;
+use crate::phases::ESCAPE;
+use crate::phases::ESCAPE_IGNORE;
+use crate::phases::ESCAPE_ONE;
+use crate::phases::ESCAPE_TWO;
+use crate::phases::Op;
+use crate::phases::Phase;
+use crate::phases::Transition;
+use crate::phases::is_ground;
+use crate::phases::is_string;
+use crate::phases::phase_number;
+use ground::tests::between;
 ghost use mathlib.Core.Path.{_≡_};
 ghost use mathlib.Core.Bool.{cond};
 ghost use Prim.Native.Nat.{_<_};
 ghost use lib.Dec.{ltb};
-ghost use Rattle.parser.specs.declared.parser.Phase.the-variants.{Escape};
 ghost use Rattle.parser.specs.Parser as parsing;
-ghost use Rattle.parser.specs.Idle.{takesParameters};
-
-pub fn between(low: u8, byte: u8, high: u8) -> bool
-    ensures { λ r. ⌜ r ≡ parsing.between low byte high ⌝ }
-{
-    (low <= byte) & (byte <= high)
-}
 
 fn to(next: Phase, op: Op) -> Transition
     ensures { λ r. ⌜ r ≡ parsing.to next op ⌝ }
@@ -80,10 +85,10 @@ fn intermediate_rule(x: u8, more: Transition) -> Transition
     )
 }
 
-// An escape sequence before any intermediate: 40 to 5F is the control 40 higher.
+// An escape sequence before any intermediate: one of them, 40 to 5F as the control 40 higher, a final.
 fn escape_rule(x: u8) -> Transition
     requires { ⌜ x < 128 ⌝ }
-    ensures { λ r. ⌜ r ≡ parsing.sequenceRule Escape x ⌝ }
+    ensures { λ r. ⌜ r ≡ parsing.escapeRule x ⌝ }
 {
     if x < 0x30 {
         return to(Phase::EscapeOne, Op::Collect);
@@ -94,7 +99,7 @@ fn escape_rule(x: u8) -> Transition
     to(Phase::Ground, Op::EscDispatch)
 }
 
-// 20 to 7E in a sequence. In ground and in a string no byte is read by this rule.
+// 20 to 7E in a sequence. In the other phases no byte is read by this rule.
 fn sequence_rule(phase: Phase, x: u8) -> Transition
     requires { ⌜ x < 128 ⌝ }
     ensures { λ r. ⌜ r ≡ parsing.sequenceRule phase x ⌝ }
@@ -102,18 +107,17 @@ fn sequence_rule(phase: Phase, x: u8) -> Transition
     let dispatch = to(Phase::Ground, Op::EscDispatch);
     let ends = to(Phase::Ground, Op::Ignore);
     let ignored = to(Phase::CsiIgnore, Op::Ignore);
-    match phase {
-        Phase::Ground => ends,
-        Phase::Escape => escape_rule(x),
-        Phase::EscapeOne => below(x, 0x30, to(Phase::EscapeTwo, Op::Collect), dispatch),
-        Phase::EscapeTwo => below(x, 0x30, to(Phase::EscapeIgnore, Op::Ignore), dispatch),
-        Phase::EscapeIgnore => below(x, 0x30, to(Phase::EscapeIgnore, Op::Ignore), ends),
-        Phase::CsiEntry => parameter_rule(x, to(Phase::CsiParam, Op::Mark)),
-        Phase::CsiParam => parameter_rule(x, ignored),
-        Phase::CsiOne => intermediate_rule(x, to(Phase::CsiTwo, Op::Collect)),
-        Phase::CsiTwo => intermediate_rule(x, ignored),
-        Phase::CsiIgnore => below(x, 0x40, ignored, ends),
-        Phase::StringText => to(Phase::StringText, Op::Ignore),
+    match phase_number(phase) {
+        ESCAPE => escape_rule(x),
+        ESCAPE_ONE => below(x, 0x30, to(Phase::EscapeTwo, Op::Collect), dispatch),
+        ESCAPE_TWO => below(x, 0x30, to(Phase::EscapeIgnore, Op::Ignore), dispatch),
+        ESCAPE_IGNORE => below(x, 0x30, to(Phase::EscapeIgnore, Op::Ignore), ends),
+        CSI_ENTRY => parameter_rule(x, to(Phase::CsiParam, Op::Mark)),
+        CSI_PARAM => parameter_rule(x, ignored),
+        CSI_ONE => intermediate_rule(x, to(Phase::CsiTwo, Op::Collect)),
+        CSI_TWO => intermediate_rule(x, ignored),
+        CSI_IGNORE => below(x, 0x40, ignored, ends),
+        _ => to(phase, Op::Ignore),
     }
 }
 
@@ -131,20 +135,17 @@ fn in_sequence(phase: Phase, byte: u8) -> Transition
     sequence_rule(phase, x)
 }
 
-// The bytes that do not act alike in every phase.
+// The bytes that do not act alike in every phase: ground prints them, in a string they are lost.
 fn phase_rule(phase: Phase, byte: u8) -> Transition
     ensures { λ r. ⌜ r ≡ parsing.phaseRule phase byte ⌝ }
 {
-    match phase {
-        Phase::Ground => below(
-            byte,
-            0x20,
-            to(Phase::Ground, Op::Execute),
-            to(Phase::Ground, Op::Print),
-        ),
-        Phase::StringText => to(Phase::StringText, Op::Ignore),
-        _ => in_sequence(phase, byte),
+    if is_ground(phase) {
+        return below(byte, 0x20, to(phase, Op::Execute), to(phase, Op::Print));
     }
+    if is_string(phase) {
+        return to(phase, Op::Ignore);
+    }
+    in_sequence(phase, byte)
 }
 
 // CAN, SUB, ESC and 80 to 9F act alike in every phase.
@@ -164,34 +165,4 @@ pub fn transition(phase: Phase, byte: u8) -> Transition
         return c1_rule(byte);
     }
     phase_rule(phase, byte)
-}
-
-// How many intermediates were collected.
-pub fn intermediates(phase: Phase) -> u8
-    ensures { λ r. ⌜ r ≡ parsing.intermediates phase ⌝ }
-{
-    match phase {
-        Phase::Ground => 0,
-        Phase::Escape => 0,
-        Phase::EscapeOne => 1,
-        Phase::EscapeTwo => 2,
-        Phase::EscapeIgnore => 0,
-        Phase::CsiEntry => 0,
-        Phase::CsiParam => 0,
-        Phase::CsiOne => 1,
-        Phase::CsiTwo => 2,
-        Phase::CsiIgnore => 0,
-        Phase::StringText => 0,
-    }
-}
-
-// Where parameters are read.
-pub fn takes_parameters(phase: Phase) -> bool
-    ensures { λ r. ⌜ r ≡ takesParameters phase ⌝ }
-{
-    match phase {
-        Phase::CsiEntry => true,
-        Phase::CsiParam => true,
-        _ => false,
-    }
 }

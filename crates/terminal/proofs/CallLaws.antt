@@ -2,42 +2,44 @@
 use mathlib.Core.Path.{_≡_, refl, sym, ap, _∙_, subst}
 use mathlib.Core.Bool.{Bool, true, false, cond, false≢true}
 use mathlib.Core.List.{List}
-use Prim.Native.Nat.{ℕ, _*_, _^_, _≤_}
+use Prim.Native.Nat.{ℕ, _*_, _^_}
 use lib.Dec.{eqb, ltb}
 use lib.ListN.{length}
 use borrow.Author.Tests.{eq-eqb, ne-eqb, eqb-true, eqb-false, ltb-true, lt-ltb}
+use Rattle.vt.specs.Bounds.{OnPage}
 use Rattle.vt.specs.Whole.{wholeCore}
-use Rattle.parser.specs.Parser.{between}
-use Rattle.parser.proofs.Tests.{and-left, and-right, and-both, between-low, between-high}
-use Rattle.sound.proofs.Wholeness.{facts, tested}
-use Rattle.terminal.specs.declared.State.{State}
+use Rattle.ground.specs.Tests.{between}
+use Rattle.ground.proofs.TestLaws.{and-left, and-right, and-both}
+use Rattle.wholeness.proofs.Wholeness.{placed, core-sized, facts, tested}
+use Rattle.steps.specs.declared.State.{State}
+use Rattle.feeding.specs.Bytes.{Feeding, readCount, bytesFed}
 use Rattle.terminal.specs.declared.Answer.{Answer}
 use Rattle.terminal.specs.declared.Answer.the-variants.{Done, Broken, WrongSize, NoRoom}
 use Rattle.terminal.specs.Answers.{number, refusal}
-use Rattle.terminal.specs.Whole.{wholeState, WholeState}
+use Rattle.steps.specs.Whole.{wholeState, WholeState}
 use Rattle.terminal.specs.Start.{startAnswer, startGives, started}
-use Rattle.terminal.specs.Feed.{Feed, readCount, fitting, screen, feedFirst, feedRefused, feedGives, fed}
+use Rattle.terminal.specs.Feed.{Feed, fitting, feedAs, feedFirst, feedRefused, feedGives, fed}
 use Rattle.terminal.specs.Ask.{askDone, askRefused, asked}
 use Rattle.terminal.specs.Read.{onPage, readAnswer, readGives, cellRead}
-use Rattle.terminal.proofs.StepLaws.{Sane}
 
 -- ---- whole states
 
 pub state-facts : (s : State) → wholeState s ≡ true → WholeState s
 unfolding wholeState
-state-facts s e = record {
-  core = facts (s .core) (and-left (wholeCore (s .core)) (ltb (s .changed) (2 ^ s .core .rows)) e);
-  changed = ltb-true (s .changed) (2 ^ s .core .rows) (and-right (wholeCore (s .core)) (ltb (s .changed) (2 ^ s .core .rows)) e);
-}
+state-facts s e =
+    let few = ltb (s .tracked .changed) (2 ^ s .core .rows) in
+    let w = and-left (wholeCore (s .core)) few e in
+    record {
+      core = facts (s .core) w;
+      size = core-sized (s .core) w;
+      changed = ltb-true (s .tracked .changed) (2 ^ s .core .rows) (and-right (wholeCore (s .core)) few e);
+    }
 
 pub state-tested : (s : State) → WholeState s → wholeState s ≡ true
 unfolding wholeState
-state-tested s w = and-both (wholeCore (s .core)) (ltb (s .changed) (2 ^ s .core .rows)) (tested (s .core) (w .core)) (lt-ltb (s .changed) (2 ^ s .core .rows) (w .changed))
-
-pub sane-screen : (s : State) (p : List ℕ) → wholeState s ≡ true → length p ≡ 80 * s .core .rows → Sane (s .core .rows) (screen s p)
-sane-screen s p e h =
-    let w = state-facts s e in
-    record { whole = w .core; rows = refl; size = h; few = w .changed }
+state-tested s w =
+    and-both (wholeCore (s .core)) (ltb (s .tracked .changed) (2 ^ s .core .rows))
+    (tested (s .core) (w .size) (w .core)) (lt-ltb (s .tracked .changed) (2 ^ s .core .rows) (w .changed))
 
 -- ---- feeding
 
@@ -57,6 +59,13 @@ module _ (s : State) (p i o : List ℕ) where
   pub fed-run : wholeState s ≡ true → length p ≡ 80 * s .core .rows → fed s p i o ≡ feedFirst (fitting s i o) (readCount s i o) s p i o
   unfolding fed
   fed-run e h = rw (e, eq-eqb _ _ h) (fitting-gives (ltb (readCount s i o) (length i)))
+
+  -- what the loop over the input leaves, with its answer
+  pub fed-bytes : (f : Feeding) → f ≡ bytesFed s p i o → wholeState s ≡ true → length p ≡ 80 * s .core .rows
+      → feedAs (cond (f .result .full) NoRoom Done) (f .result .read) (f .result .replied) (f .result .state) (f .page) (f .reply) ≡ fed s p i o
+  fed-bytes f e w h =
+      ap (λ (x : Feeding). feedAs (cond (x .result .full) NoRoom Done) (x .result .read) (x .result .replied) (x .result .state) (x .page) (x .reply)) e
+      ∙ sym (fed-run w h)
 
   -- which of the three it is
   pub fed-cases : {C : Type 0} → (wholeState s ≡ false → C) → (wholeState s ≡ true → (length p ≡ 80 * s .core .rows → ⊥) → C)
@@ -116,17 +125,8 @@ module _ (s : State) (p i o : List ℕ) where
 
 -- ---- asking and reading
 
-pub record OnPage (rows r c : ℕ) : Type 0 where
-  pub row-low : 1 ≤ r
-  pub row-high : r ≤ rows
-  pub column-low : 1 ≤ c
-  pub column-high : c ≤ 80
-
 pub on-page : (rows r c : ℕ) → onPage rows r c ≡ true → OnPage rows r c
-on-page rows r c e =
-    let a = and-left (between 1 r rows) (between 1 c 80) e in
-    let b = and-right (between 1 r rows) (between 1 c 80) e in
-    record { row-low = between-low 1 r rows a; row-high = between-high 1 r rows a; column-low = between-low 1 c 80 b; column-high = between-high 1 c 80 b }
+on-page rows r c e = placed rows r c (and-left (between 1 r rows) (between 1 c 80) e) (and-right (between 1 r rows) (between 1 c 80) e)
 
 pub asked-done : (s : State) → wholeState s ≡ true → asked s ≡ askDone s
 unfolding asked

@@ -1,6 +1,1 @@
-pub mod Examples
-pub mod StepLaws
 pub mod CallLaws
-pub mod FeedLoop
-pub mod SpanLaws
-pub mod LineLaws

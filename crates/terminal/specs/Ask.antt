@@ -2,12 +2,12 @@
 use mathlib.Core.Bool.{cond}
 use Prim.Native.Nat.{ℕ}
 use Rattle.cells.specs.Sets.{sizeOf, hasBit}
-use Rattle.terminal.specs.declared.State.{State}
+use Rattle.steps.specs.declared.State.{State}
 use Rattle.terminal.specs.declared.Asked.{Asked}
 use Rattle.terminal.specs.declared.Answer.{Answer}
 use Rattle.terminal.specs.declared.Answer.the-variants.{Done, Broken, WrongSize, NoRoom, OffPage}
 use Rattle.terminal.specs.Answers.{number}
-use Rattle.terminal.specs.Whole.{wholeState}
+use Rattle.steps.specs.Whole.{wholeState}
 
 -- the answer's number, and the result
 pub record Ask : Type 0 where
@@ -22,7 +22,9 @@ abbrev pub askAs : Answer → ℕ → ℕ → State → Ask
 askAs a rows count s = record { number = number a; result = record { answer = a; rows = rows; count = count; state = s } }
 
 abbrev pub askDone : State → Ask
-askDone s = askAs Done (s .changed) (sizeOf (s .core .rows) (hasBit (s .changed))) (record { core = s .core; changed = 0 })
+askDone s =
+    let rows = s .tracked .changed in
+    askAs Done rows (sizeOf (s .core .rows) (hasBit rows)) (record { core = s .core; tracked = record { changed = 0 } })
 
 -- the empty set, 0, and the state as it came
 abbrev pub askRefused : Answer → State → Ask

@@ -5,13 +5,14 @@ use Prim.Native.Nat.{ℕ}
 use lib.Dec.{ltb}
 use lib.ListN.{length, take}
 use lib.Seq.{sets}
-use Rattle.terminal.specs.declared.State.{State}
+use Rattle.steps.specs.declared.State.{State}
 use Rattle.terminal.specs.declared.Fed.{Fed}
 use Rattle.terminal.specs.declared.Answer.{Answer}
 use Rattle.terminal.specs.declared.Answer.the-variants.{Done, Broken, WrongSize, NoRoom, OffPage}
 use Rattle.terminal.specs.Answers.{number}
-use Rattle.terminal.specs.Steps.{Screen, ran, sent, readable}
-use Rattle.terminal.specs.Whole.{wholeState, rightSize}
+use Rattle.steps.specs.Steps.{screen, ran, sent}
+use Rattle.feeding.specs.Bytes.{readCount}
+use Rattle.steps.specs.Whole.{wholeState, rightSize}
 
 -- the answer's number, the result, and what is left in the page and the reply buffer
 pub record Feed : Type 0 where
@@ -20,10 +21,6 @@ pub record Feed : Type 0 where
   pub page : List ℕ
   pub reply : List ℕ
 
--- how many bytes are read
-abbrev pub readCount : State → List ℕ → List ℕ → ℕ
-readCount s i o = readable (length o) (s .core) i
-
 -- the answer of a feeding that is not refused
 abbrev pub fitting : State → List ℕ → List ℕ → Answer
 fitting s i o = cond (ltb (readCount s i o) (length i)) NoRoom Done
@@ -31,9 +28,6 @@ fitting s i o = cond (ltb (readCount s i o) (length i)) NoRoom Done
 -- given exactly when
 abbrev pub feedAnswer : State → List ℕ → List ℕ → List ℕ → Answer
 feedAnswer s p i o = cond (wholeState s) (cond (rightSize (s .core .rows) p) (fitting s i o) WrongSize) Broken
-
-abbrev pub screen : State → List ℕ → Screen
-screen s p = record { core = s .core; page = p; changed = s .changed }
 
 abbrev pub feedAs : Answer → ℕ → ℕ → State → List ℕ → List ℕ → Feed
 feedAs a read replied s p o =
@@ -44,7 +38,7 @@ abbrev pub feedFirst : Answer → ℕ → State → List ℕ → List ℕ → Li
 feedFirst a n s p i o =
     let d = ran (screen s p) (take n i) in
     let out = sent (s .core) (take n i) in
-    feedAs a n (length out) (record { core = d .core; changed = d .changed }) (d .page) (sets o 0 out)
+    feedAs a n (length out) (record { core = d .core; tracked = d .tracked }) (d .page) (sets o 0 out)
 
 -- nothing read, nothing sent, all as it came
 abbrev pub feedRefused : Answer → State → List ℕ → List ℕ → Feed

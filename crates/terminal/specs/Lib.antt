@@ -1,10 +1,6 @@
-pub mod Steps
 pub mod Answers
-pub mod Whole
 pub mod Start
 pub mod Feed
 pub mod Ask
 pub mod Read
-pub mod Ready
-pub mod Spans
-pub mod Examples
+pub mod CursorRead

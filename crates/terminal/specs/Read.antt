@@ -4,13 +4,13 @@ use mathlib.Core.List.{List}
 use Prim.Native.Nat.{ℕ, _+_, _-_, _*_}
 use lib.ListN.{getD}
 use Rattle.cells.specs.Cells.{blank}
-use Rattle.parser.specs.Parser.{between}
-use Rattle.terminal.specs.declared.State.{State}
+use Rattle.ground.specs.Tests.{between}
+use Rattle.steps.specs.declared.State.{State}
 use Rattle.terminal.specs.declared.CellRead.{CellRead}
 use Rattle.terminal.specs.declared.Answer.{Answer}
 use Rattle.terminal.specs.declared.Answer.the-variants.{Done, Broken, WrongSize, NoRoom, OffPage}
 use Rattle.terminal.specs.Answers.{number}
-use Rattle.terminal.specs.Whole.{wholeState, rightSize}
+use Rattle.steps.specs.Whole.{wholeState, rightSize}
 
 abbrev pub onPage : ℕ → ℕ → ℕ → Bool
 onPage rows r c = between 1 r rows && between 1 c 80

@@ -6,15 +6,15 @@ use lib.ListN.{replicate}
 use Rattle.cells.specs.Cells.{blank}
 use Rattle.vt.specs.Whole.{sized}
 use Rattle.vt.specs.Fresh.{freshCore}
-use Rattle.terminal.specs.declared.State.{State}
+use Rattle.steps.specs.declared.State.{State}
 use Rattle.terminal.specs.declared.Started.{Started}
 use Rattle.terminal.specs.declared.Answer.{Answer}
 use Rattle.terminal.specs.declared.Answer.the-variants.{Done, Broken, WrongSize, NoRoom, OffPage}
 use Rattle.terminal.specs.Answers.{number}
-use Rattle.terminal.specs.Whole.{rightSize}
+use Rattle.steps.specs.Whole.{rightSize}
 
 abbrev pub fresh : ℕ → State
-fresh r = record { core = freshCore r; changed = 0 }
+fresh r = record { core = freshCore r; tracked = record { changed = 0 } }
 
 abbrev pub blankPage : ℕ → List ℕ
 blankPage r = replicate (80 * r) blank

@@ -2,27 +2,33 @@
 use crate::Answer;
 use crate::Asked;
 use crate::CellRead;
+use crate::CursorRead;
 use crate::Fed;
 use crate::Started;
-use crate::State;
-use crate::run::run;
 use crate::whole::is_whole;
-use cells::edits::clear;
+use cells::BLANK;
 use cells::marks::count_rows;
+use feeding::bytes::feed_bytes;
+use page::edits::clear;
+use steps::State;
+use steps::Tracked;
 use vt::fresh::fresh_core;
 ghost use mathlib.Core.Path.{_≡_};
+ghost use mathlib.Core.Bool.{cond};
+ghost use Rattle.terminal.specs.declared.Answer.the-variants.{Done, NoRoom};
 ghost use Rattle.terminal.specs.Answers.{number};
 ghost use Rattle.terminal.specs.Start as starting;
 ghost use Rattle.terminal.specs.Feed.{fed};
 ghost use Rattle.terminal.specs.Ask.{asked};
 ghost use Rattle.terminal.specs.Read.{cellRead};
+ghost use Rattle.terminal.specs.CursorRead.{cursorRead};
 
 fn fresh(rows: u8) -> State
     ensures { λ r. ⌜ r ≡ starting.fresh rows ⌝ }
 {
     State {
         core: fresh_core(rows),
-        changed: 0,
+        tracked: Tracked { changed: 0 },
     }
 }
 
@@ -49,6 +55,16 @@ pub fn start(rows: usize, page: &mut [u16]) -> Started
     }
 }
 
+// The answer of a feeding that is not refused: whether a reply did not fit.
+fn fitting(full: bool) -> Answer
+    ensures { λ r. ⌜ r ≡ cond full NoRoom Done ⌝ }
+{
+    if full {
+        return Answer::NoRoom;
+    }
+    Answer::Done
+}
+
 // Feeds bytes from the modem, until the input ends or a reply does not fit.
 pub fn feed(state: State, page: &mut [u16], input: &[u8], reply: &mut [u8]) -> Fed
     ensures { λ r. ⌜ record { number = number (r .answer); result = r; page = now (page .exit); reply = now (reply .exit) }
@@ -72,7 +88,14 @@ pub fn feed(state: State, page: &mut [u16], input: &[u8], reply: &mut [u8]) -> F
             state,
         };
     }
-    run(state, page, input, reply)
+    let done = feed_bytes(state, page, input, reply);
+    let after = done.state;
+    Fed {
+        answer: fitting(done.full),
+        read: done.read,
+        replied: done.replied,
+        state: after,
+    }
 }
 
 // Asks for the changed rows, and empties the set.
@@ -88,12 +111,15 @@ pub fn ask(state: State) -> Asked
         };
     }
     let core = state.core;
-    let changed = state.changed;
+    let changed = state.tracked.changed;
     Asked {
         answer: Answer::Done,
         rows: changed,
         count: count_rows(changed),
-        state: State { core, changed: 0 },
+        state: State {
+            core,
+            tracked: Tracked { changed: 0 },
+        },
     }
 }
 
@@ -104,7 +130,7 @@ pub fn read(state: State, page: &[u16], row: usize, column: usize) -> CellRead
     if !is_whole(state) {
         return CellRead {
             answer: Answer::Broken,
-            word: 0x20,
+            word: BLANK,
         };
     }
     let core = state.core;
@@ -112,7 +138,7 @@ pub fn read(state: State, page: &[u16], row: usize, column: usize) -> CellRead
     if page.len() != 80 * rows {
         return CellRead {
             answer: Answer::WrongSize,
-            word: 0x20,
+            word: BLANK,
         };
     }
     if (1 <= row) & (row <= rows) & ((1 <= column) & (column <= 80)) {
@@ -124,7 +150,32 @@ pub fn read(state: State, page: &[u16], row: usize, column: usize) -> CellRead
     } else {
         CellRead {
             answer: Answer::OffPage,
-            word: 0x20,
+            word: BLANK,
         }
+    }
+}
+
+// Reads the cursor: its row and column on the page, counted from 1, whatever origin mode says.
+pub fn cursor(state: State) -> CursorRead
+    ensures { λ r. ⌜ record { number = number (r .answer); result = r } ≡ cursorRead state ⌝ }
+{
+    if !is_whole(state) {
+        return CursorRead {
+            answer: Answer::Broken,
+            row: 0,
+            column: 0,
+            wrap: false,
+            shown: false,
+        };
+    }
+    let core = state.core;
+    let cursor = core.cursor;
+    let modes = core.modes;
+    CursorRead {
+        answer: Answer::Done,
+        row: cursor.row,
+        column: cursor.column,
+        wrap: cursor.wrap,
+        shown: modes.shown,
     }
 }

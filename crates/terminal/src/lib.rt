@@ -1,17 +1,9 @@
-// The terminal's calls: start, feed, ask for the changed rows, read a cell.
-use vt::core::Core;
+// The terminal's calls: start, feed, ask for the changed rows, read a cell, read the cursor.
+use steps::State;
 
 pub mod answers;
 pub mod calls;
-mod line;
-mod run;
 mod whole;
-
-// The changed rows are bits of one number, row 1 the lowest.
-pub struct State {
-    pub core: Core,
-    pub changed: u64,
-}
 
 // What a call answers. The numbers are in specs/Answers.antt (SCOPE 2).
 pub enum Answer {
@@ -47,4 +39,13 @@ pub struct Asked {
 pub struct CellRead {
     pub answer: Answer,
     pub word: u16,
+}
+
+// Where the cursor is on the page, whether a wrap is due, and whether it is shown.
+pub struct CursorRead {
+    pub answer: Answer,
+    pub row: u8,
+    pub column: u8,
+    pub wrap: bool,
+    pub shown: bool,
 }

@@ -1,7 +1,7 @@
 // Whole states, and pages of their size.
-use crate::State;
+use steps::State;
 ghost use mathlib.Core.Path.{_≡_};
-ghost use Rattle.terminal.specs.Whole.{wholeState};
+ghost use Rattle.steps.specs.Whole.{wholeState};
 
 pub fn is_whole(state: State) -> bool
     ensures { λ r. ⌜ r ≡ wholeState state ⌝ }
@@ -9,7 +9,7 @@ pub fn is_whole(state: State) -> bool
     let core = state.core;
     if vt::whole::is_whole(core) {
         let rows = core.rows;
-        state.changed < 1u64 << rows
+        state.tracked.changed < 1u64 << rows
     } else {
         false
     }

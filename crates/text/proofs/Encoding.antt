@@ -1,12 +1,12 @@
 -- UTF-8: the bytes of a code point in each of the three ranges, and of the signs of some cells.
 use mathlib.Core.Path.{_≡_, refl, sym, ap, _∙_}
-use mathlib.Core.Bool.{Bool, true, false, cond}
 use mathlib.Core.List.{List, [], _∷_, _++_, append-nil, append-assoc, map}
 use Prim.Native.Nat.{ℕ, zero, suc, _+_, _*_, _/_, _%_, _≤_, _<_}
 use native.Mathlib.Omega.{arith}
 use lib.Dec.{ltb}
 use lib.ListN.{length, getD, take, length-append, length-map, length-take}
 use borrow.Author.Tests.{lt-ltb, le-ltb}
+use Rattle.ground.proofs.TestLaws.{either}
 use Rattle.text.specs.Text.{sign, utf8, encoded}
 use Rattle.text.proofs.Trimming.{signs-more}
 
@@ -46,12 +46,10 @@ encoded-part (suc n) [] = omega arith
 encoded-part (suc n) (x ∷ r) =
     omega (arith, encoded-part n r, length-append (utf8 (sign x)) (encoded (map sign (take n r))), length-append (utf8 (sign x)) (encoded (map sign r)))
 
-cond-length : (t : Bool) (x y : List ℕ) (n : ℕ) → length x ≤ n → length y ≤ n → length (cond t x y) ≤ n
-cond-length true x y n p q = p
-cond-length false x y n p q = q
-
 pub utf8-short : (x : ℕ) → length (utf8 x) ≤ 3
-utf8-short x = cond-length (ltb x 0x80) _ _ 3 (omega arith) (cond-length (ltb x 0x800) _ _ 3 (omega arith) (omega arith))
+utf8-short x =
+    let Short : List ℕ → Type 0 = λ (bytes : List ℕ). length bytes ≤ 3 in
+    either Short (ltb x 0x80) (λ e. omega arith) (λ e. either Short (ltb x 0x800) (λ e. omega arith) (λ e. omega arith))
 
 pub encoded-short : (xs : List ℕ) → length (encoded xs) ≤ 3 * length xs
 unfolding encoded

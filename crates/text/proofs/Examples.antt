@@ -6,7 +6,7 @@ use Prim.Native.Char.{code}
 use Prim.Native.String.{String}
 use lib.ListN.{replicate}
 use Rattle.cells.specs.Cells.{unpacked}
-use Rattle.text.specs.declared.Written.the-variants.{Whole, NoRoom}
+use Rattle.text.specs.declared.Written.the-variants.{Complete, TooSmall}
 use Rattle.text.specs.Text.{sign, trimmed, encoded, lines, textOf, written}
 
 -- the codes of a text whose characters are all below 80
@@ -32,10 +32,10 @@ unfolding unpacked sign encoded
 signs = refl
 
 -- a row that fits, and one that does not
-pub whole : written (0x48 ∷ 0x69 ∷ replicate 78 0x20) (1 ∷ 2 ∷ 3 ∷ 4 ∷ []) ≡ record { number = 0; result = Whole 3; buffer = 0x48 ∷ 0x69 ∷ 0x0A ∷ 4 ∷ [] }
+pub whole : written (0x48 ∷ 0x69 ∷ replicate 78 0x20) (1 ∷ 2 ∷ 3 ∷ 4 ∷ []) ≡ record { number = 0; result = Complete 3; buffer = 0x48 ∷ 0x69 ∷ 0x0A ∷ 4 ∷ [] }
 unfolding unpacked sign trimmed encoded lines textOf written
 whole = refl
 
-pub no-room : written (0x48 ∷ 0x69 ∷ replicate 78 0x20) (1 ∷ 2 ∷ []) ≡ record { number = 3; result = NoRoom; buffer = 1 ∷ 2 ∷ [] }
+pub no-room : written (0x48 ∷ 0x69 ∷ replicate 78 0x20) (1 ∷ 2 ∷ []) ≡ record { number = 3; result = TooSmall; buffer = 1 ∷ 2 ∷ [] }
 unfolding unpacked sign trimmed encoded lines textOf written
 no-room = refl

@@ -1,6 +1,6 @@
 -- The text of a page of n rows has n lines: the sign of a cell is never 0A.
 use mathlib.Core.Path.{_≡_, refl, sym, ap, _∙_}
-use mathlib.Core.Bool.{Bool, true, false, cond, _&&_, _||_, false≢true}
+use mathlib.Core.Bool.{Bool, true, false, cond, _&&_, _||_}
 use mathlib.Core.List.{List, [], _∷_, _++_, map}
 use mathlib.Core.Logic.{⊎-elim}
 use Prim.Native.Nat.{ℕ, zero, suc, _+_, _-_, _/_, _%_, _≤_, _<_}
@@ -12,7 +12,8 @@ use Rattle.cells.specs.declared.CharSet.{CharSet}
 use Rattle.cells.specs.declared.CharSet.the-variants.{Ascii, SpecialGraphics, Supplemental, Latin1}
 use Rattle.cells.specs.Cells.{unpacked}
 use Rattle.cells.specs.Rows.{rowsOf}
-use Rattle.cells.proofs.Lists.{split-lt}
+use Rattle.ground.proofs.ListLaws.{split-lt}
+use Rattle.ground.proofs.TestLaws.{and-left, and-right}
 use Rattle.text.specs.Text.{lineDrawing, unshown, shownCode, graphicSign, signIn, sign, utf8, trimmed, encoded, line, lines, textOf, lineCount}
 use Rattle.text.proofs.Trimming.{left-signs}
 use Rattle.text.proofs.Encoding.{one-byte, two-bytes, three-bytes}
@@ -23,14 +24,6 @@ use Rattle.text.proofs.Encoding.{one-byte, two-bytes, three-bytes}
 abbrev pub every : (ℕ → Bool) → List ℕ → Bool
 every f [] = true
 every f (x ∷ xs) = f x && every f xs
-
-pub and-left : (a b : Bool) → (a && b) ≡ true → a ≡ true
-and-left true b e = refl
-and-left false b e = e
-
-pub and-right : (a b : Bool) → (a && b) ≡ true → b ≡ true
-and-right true b e = e
-and-right false b e = absurd (false≢true e)
 
 pub at : (f : ℕ → Bool) (xs : List ℕ) → every f xs ≡ true → (k : ℕ) → k < length xs → f (getD xs k 0) ≡ true
 at f [] e k h = absurd (omega arith)

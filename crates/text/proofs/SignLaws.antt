@@ -11,7 +11,8 @@ use Rattle.cells.specs.declared.CharSet.{CharSet}
 use Rattle.cells.specs.declared.CharSet.the-variants.{Ascii, SpecialGraphics, Supplemental, Latin1}
 use Rattle.cells.specs.Cells.{unpacked, hasSign, Printable}
 use Rattle.text.specs.Text.{lineDrawing, unshown, shownCode, graphicSign, signIn, sign}
-use Rattle.text.proofs.LineCount.{at, and-left, and-right}
+use Rattle.ground.proofs.TestLaws.{and-left, and-right}
+use Rattle.text.proofs.LineCount.{at}
 
 -- ---- codes
 

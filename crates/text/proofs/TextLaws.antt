@@ -9,7 +9,7 @@ use lib.ListN.{length, take, drop, length-append, length-take}
 use lib.Seq.{sets, drop-drop}
 use borrow.Author.Tests.{le-leb, lt-leb}
 use Rattle.cells.specs.Rows.{row, rowsOf}
-use Rattle.text.specs.declared.Written.the-variants.{Whole, NoRoom}
+use Rattle.text.specs.declared.Written.the-variants.{Complete, TooSmall}
 use Rattle.text.specs.Text.{sign, trimmed, encoded, line, lines, textOf, pageText, writeAs, writeGives, written}
 use Rattle.text.proofs.Trimming.{trimmed-within}
 use Rattle.text.proofs.Encoding.{encoded-short}
@@ -64,13 +64,13 @@ text-short (suc n) p =
 -- ---- writing it
 
 module _ (p o : List ℕ) where
-  pub written-whole : length (pageText p) ≤ length o → written p o ≡ writeAs (Whole (length (pageText p))) (sets o 0 (pageText p))
+  pub written-whole : length (pageText p) ≤ length o → written p o ≡ writeAs (Complete (length (pageText p))) (sets o 0 (pageText p))
   unfolding written
-  written-whole h = ap (λ (t : Bool). writeGives (cond t (Whole (length (pageText p))) NoRoom) (pageText p) o) (le-leb (length (pageText p)) (length o) h)
+  written-whole h = ap (λ (t : Bool). writeGives (cond t (Complete (length (pageText p))) TooSmall) (pageText p) o) (le-leb (length (pageText p)) (length o) h)
 
-  pub written-none : length o < length (pageText p) → written p o ≡ writeAs NoRoom o
+  pub written-none : length o < length (pageText p) → written p o ≡ writeAs TooSmall o
   unfolding written
-  written-none h = ap (λ (t : Bool). writeGives (cond t (Whole (length (pageText p))) NoRoom) (pageText p) o) (lt-leb (length (pageText p)) (length o) h)
+  written-none h = ap (λ (t : Bool). writeGives (cond t (Complete (length (pageText p))) TooSmall) (pageText p) o) (lt-leb (length (pageText p)) (length o) h)
 
 -- ---- a page of n rows
 
@@ -79,8 +79,8 @@ page-text n p h = let e : length p / 80 ≡ n = omega arith in ap (λ (k : ℕ).
 
 -- a buffer of 241 bytes a row always holds it: 5,784 bytes for 24 rows
 pub always-whole : (n : ℕ) (p o : List ℕ) → length p ≡ 80 * n → 80 * 3 * n + n ≤ length o
-    → written p o ≡ writeAs (Whole (length (textOf n p))) (sets o 0 (textOf n p))
+    → written p o ≡ writeAs (Complete (length (textOf n p))) (sets o 0 (textOf n p))
 always-whole n p o h room =
     let e = page-text n p h in
     written-whole p o (omega (arith, ap length e, text-short n p))
-    ∙ ap (λ (t : List ℕ). writeAs (Whole (length t)) (sets o 0 t)) e
+    ∙ ap (λ (t : List ℕ). writeAs (Complete (length t)) (sets o 0 t)) e

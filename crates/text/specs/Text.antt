@@ -10,7 +10,7 @@ use Rattle.cells.specs.declared.CharSet.the-variants.{Ascii, SpecialGraphics, S
 use Rattle.cells.specs.Cells.{unpacked}
 use Rattle.cells.specs.Rows.{rowsOf}
 use Rattle.text.specs.declared.Written.{Written}
-use Rattle.text.specs.declared.Written.the-variants.{Whole, NoRoom}
+use Rattle.text.specs.declared.Written.the-variants.{Complete, TooSmall}
 
 -- ---- the sign of a cell, as a code point
 
@@ -93,8 +93,8 @@ pageText p = textOf (length p / 80) p
 
 -- the scope's numbers
 abbrev pub writtenNumber : Written → ℕ
-writtenNumber (Whole n) = 0
-writtenNumber NoRoom = 3
+writtenNumber (Complete n) = 0
+writtenNumber TooSmall = 3
 
 -- the answer's number, the result, and what is left in the buffer
 pub record Write : Type 0 where
@@ -104,15 +104,15 @@ pub record Write : Type 0 where
 
 -- given exactly when
 abbrev pub writeAnswer : List ℕ → List ℕ → Written
-writeAnswer t o = cond (leb (length t) (length o)) (Whole (length t)) NoRoom
+writeAnswer t o = cond (leb (length t) (length o)) (Complete (length t)) TooSmall
 
 abbrev pub writeAs : Written → List ℕ → Write
 writeAs w o = record { number = writtenNumber w; result = w; buffer = o }
 
 -- returned and left
 abbrev pub writeGives : Written → List ℕ → List ℕ → Write
-writeGives (Whole n) t o = writeAs (Whole n) (sets o 0 t)
-writeGives NoRoom t o = writeAs NoRoom o
+writeGives (Complete n) t o = writeAs (Complete n) (sets o 0 t)
+writeGives TooSmall t o = writeAs TooSmall o
 
 -- a page and a buffer
 unfoldable pub written : List ℕ → List ℕ → Write

@@ -10,14 +10,14 @@ ghost use Prim.Native.Nat.{_+_, _*_, _≤_};
 ghost use lib.ListN.{length};
 ghost use Rattle.cells.specs.Rows.{row};
 ghost use Rattle.text.specs.Text.{pageText, writtenNumber, written};
-ghost use Rattle.cells.specs.Writes.{Wrote};
+ghost use Rattle.ground.specs.Writes.{Wrote};
 
 // What writing a page as text answers.
 pub enum Written {
     // So many bytes were written.
-    Whole { len: usize },
+    Complete { len: usize },
     // The buffer is too small, and is left as it was.
-    NoRoom,
+    TooSmall,
 }
 
 // A row of a page, counted from 0.
@@ -64,9 +64,9 @@ pub fn write_text(page: &[u16], out: &mut [u8]) -> Written
     ensures { λ r. ⌜ record { number = writtenNumber r; result = r; buffer = now (out .exit) } ≡ written (now (page .entry)) (now (out .entry)) ⌝ }
 {
     if out.len() < text_len(page) {
-        return Written::NoRoom;
+        return Written::TooSmall;
     }
-    Written::Whole {
+    Written::Complete {
         len: write_rows(page, out),
     }
 }

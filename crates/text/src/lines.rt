@@ -1,14 +1,14 @@
 // The line of a row: its signs without the spaces at the end, in UTF-8, closed by 0A.
 use crate::signs::sign;
 use crate::utf8::utf8_len;
-use crate::utf8::write_byte;
 use crate::utf8::write_utf8;
+use ground::writing::write_byte;
 ghost use mathlib.Core.List.{map};
 ghost use mathlib.Core.Path.{_≡_};
 ghost use Prim.Native.Nat.{_+_, _≤_};
 ghost use lib.ListN.{length};
 ghost use Rattle.text.specs.Text.{sign, trimmed, encoded, line};
-ghost use Rattle.cells.specs.Writes.{Wrote};
+ghost use Rattle.ground.specs.Writes.{Wrote};
 
 // How many cells of a row are left without the spaces at its end.
 fn trimmed_len(row: &[u16]) -> usize

@@ -1,10 +1,10 @@
 // UTF-8, of the code points below 10000.
-ghost use mathlib.Core.List.{[], _∷_};
+use ground::writing::write_byte;
 ghost use mathlib.Core.Path.{_≡_};
 ghost use Prim.Native.Nat.{_+_, _≤_};
 ghost use lib.ListN.{length};
 ghost use Rattle.text.specs.Text.{utf8};
-ghost use Rattle.cells.specs.Writes.{Wrote};
+ghost use Rattle.ground.specs.Writes.{Wrote};
 
 // How many bytes a code point takes.
 pub fn utf8_len(code: u16) -> usize
@@ -14,15 +14,6 @@ pub fn utf8_len(code: u16) -> usize
         return 1;
     }
     if code < 0x800 { 2 } else { 3 }
-}
-
-// Writes a byte, and returns the place after it.
-pub fn write_byte(out: &mut [u8], at: usize, byte: u8) -> usize
-    requires { ⌜ at + 1 ≤ length (now out) ⌝ }
-    ensures { λ r. ⌜ Wrote (now (out .entry)) at (byte ∷ []) (now (out .exit)) r ⌝ }
-{
-    out[at] = byte;
-    at + 1
 }
 
 // Writes a code point, and returns the place after it.

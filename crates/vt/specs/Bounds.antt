@@ -1,13 +1,30 @@
--- The bounds that the code's arithmetic needs. They follow from `Whole`, and an edit of the parser keeps them.
-use Prim.Native.Nat.{_≤_, _<_}
+-- The bounds that the code's arithmetic needs, on a page of any number of rows: the part of `Whole` that an edit of the parser keeps.
+use Prim.Native.Nat.{ℕ, _≤_, _<_}
 use Rattle.vt.specs.declared.core.Core.{Core}
+use Rattle.vt.specs.declared.core.Margins.{Margins}
 
-pub record Bounds (c : Core) : Type 0 where
-  pub rows-high : c .rows ≤ 48
-  pub row-low : 1 ≤ c .cursor .row
-  pub row-high : c .cursor .row ≤ c .rows
-  pub column-low : 1 ≤ c .cursor .column
-  pub column-high : c .cursor .column ≤ 80
-  pub top : 1 ≤ c .margins .top
-  pub scrolls : c .margins .top < c .margins .bottom
-  pub bottom : c .margins .bottom ≤ c .rows
+pub record Rows (rows : ℕ) : Type 0 where
+  pub low : 1 ≤ rows
+  pub high : rows ≤ 48
+
+pub record OnPage (rows row column : ℕ) : Type 0 where
+  pub row-low : 1 ≤ row
+  pub row-high : row ≤ rows
+  pub column-low : 1 ≤ column
+  pub column-high : column ≤ 80
+
+-- a page of one row has that row between its margins
+pub record Scrolls (rows : ℕ) (m : Margins) : Type 0 where
+  pub low : 1 ≤ m .top
+  pub ordered : m .top ≤ m .bottom
+  pub high : m .bottom ≤ rows
+  pub some : 1 < rows → m .top < m .bottom
+
+-- over the parts that they speak of, so that a change of another leaves them as they are
+pub record Bounded (rows row column : ℕ) (m : Margins) : Type 0 where
+  pub count : Rows rows
+  pub cursor : OnPage rows row column
+  pub margins : Scrolls rows m
+
+abbrev pub Bounds : Core → Type 0
+Bounds c = Bounded (c .rows) (c .cursor .row) (c .cursor .column) (c .margins)

@@ -2,60 +2,63 @@
 use mathlib.Core.Bool.{cond}
 use Prim.Native.Nat.{ℕ, _-_}
 use lib.Dec.{eqb}
-use Rattle.cells.specs.declared.Edit.{Edit}
-use Rattle.cells.specs.declared.Edit.the-variants.{Keep, ScrollDown}
+use Rattle.page.specs.declared.Edit.{Edit}
+use Rattle.page.specs.declared.Edit.the-variants.{Keep, ScrollDown}
 use Rattle.device.specs.declared.charsets.Register.the-variants.{G0, G1}
 use Rattle.device.specs.declared.charsets.SingleShift.the-variants.{Ss2, Ss3}
 use Rattle.device.specs.declared.cursor.Cursor.{Cursor}
+use Rattle.vt.specs.declared.core.Margins.{Margins}
 use Rattle.vt.specs.declared.core.Core.{Core}
 use Rattle.vt.specs.declared.core.Decision.{Decision}
+use Rattle.vt.specs.declared.geometry.Stops.{Stops}
 use Rattle.device.specs.Charsets.{withGl}
 use Rattle.device.specs.Tabs.{withTab}
 use Rattle.device.specs.Cursor.{left, tab, toColumn, index, reverseIndex}
+use Rattle.vt.specs.Geometry.{leftStop, rightStop, stopsOf}
 use Rattle.vt.specs.Printing.{indexEdit}
-use Rattle.vt.specs.Effects.{withCursor, withTabs, withSets, withShift, only, quiet}
+use Rattle.vt.specs.Effects.{withCursor, withTabs, withSets, withShift, oneEdit, unedited}
 
 -- ---- lines
 
 -- IND, from a cursor
 abbrev pub indexFrom : Core → Cursor → Decision
-indexFrom c u = only (withCursor c (index u (c .margins .bottom) (c .rows))) (indexEdit c u)
+indexFrom c u = oneEdit (withCursor c (index u (c .margins .bottom) (c .rows))) (indexEdit (c .margins) (stopsOf c) u)
 
 abbrev pub indexed : Core → Decision
 indexed c = indexFrom c (c .cursor)
 
 -- NEL: column 1 and IND
 abbrev pub nextLined : Core → Decision
-nextLined c = indexFrom c (toColumn (c .cursor) 1)
+nextLined c = indexFrom c (toColumn (c .cursor) (leftStop c))
 
 -- LF, VT, FF: IND, and column 1 in newline mode
 abbrev pub lineFed : Core → Decision
 lineFed c = cond (c .modes .newline) (nextLined c) (indexed c)
 
 -- RI at the top margin: rows T to B scroll down
-abbrev pub reverseIndexEdit : Core → Edit
-reverseIndexEdit c = cond (eqb (c .cursor .row) (c .margins .top)) (ScrollDown (c .margins .top - 1) (c .margins .bottom) 0 80 1) Keep
+abbrev pub reverseIndexEdit : Margins → Stops → Cursor → Edit
+reverseIndexEdit m g u = cond (eqb (u .row) (m .top)) (ScrollDown (m .top - 1) (m .bottom) (g .left - 1) (g .right) 1) Keep
 
 abbrev pub reverseIndexed : Core → Decision
-reverseIndexed c = only (withCursor c (reverseIndex (c .cursor) (c .margins .top))) (reverseIndexEdit c)
+reverseIndexed c = oneEdit (withCursor c (reverseIndex (c .cursor) (c .margins .top))) (reverseIndexEdit (c .margins) (stopsOf c) (c .cursor))
 
 -- ---- columns
 
--- BS: left, stops at 1
+-- BS: left, to the left stop
 abbrev pub backspaced : Core → Decision
-backspaced c = quiet (withCursor c (left (c .cursor) 1 1))
+backspaced c = unedited (withCursor c (left (c .cursor) 1 (leftStop c)))
 
--- HT: the next tab, else 80
+-- HT: the next tab, else the right stop
 abbrev pub tabbed : Core → Decision
-tabbed c = quiet (withCursor c (tab (c .cursor) (c .tabs) 80))
+tabbed c = unedited (withCursor c (tab (c .cursor) (c .tabs) (rightStop c)))
 
 -- CR: column 1
 abbrev pub returned : Core → Decision
-returned c = quiet (withCursor c (toColumn (c .cursor) 1))
+returned c = unedited (withCursor c (toColumn (c .cursor) (leftStop c)))
 
 -- HTS: a tab at the cursor's column
 abbrev pub tabSet : Core → Decision
-tabSet c = quiet (withTabs c (withTab (c .tabs) (c .cursor .column)))
+tabSet c = unedited (withTabs c (withTab (c .tabs) (c .cursor .column)))
 
 -- ---- the controls
 
@@ -68,9 +71,9 @@ controlled c b =
     (cond (eqb b 0x0B) (lineFed c)
     (cond (eqb b 0x0C) (lineFed c)
     (cond (eqb b 0x0D) (returned c)
-    (cond (eqb b 0x0E) (quiet (withSets c (withGl (c .sets) G1)))
-    (cond (eqb b 0x0F) (quiet (withSets c (withGl (c .sets) G0)))
-    (quiet c))))))))
+    (cond (eqb b 0x0E) (unedited (withSets c (withGl (c .sets) G1)))
+    (cond (eqb b 0x0F) (unedited (withSets c (withGl (c .sets) G0)))
+    (unedited c))))))))
 
 -- IND, NEL, HTS, RI, SS2, SS3; others, DECID among them, leave core and page
 unfoldable pub c1Controlled : Core → ℕ → Decision
@@ -79,6 +82,6 @@ c1Controlled c b =
     (cond (eqb b 0x85) (nextLined c)
     (cond (eqb b 0x88) (tabSet c)
     (cond (eqb b 0x8D) (reverseIndexed c)
-    (cond (eqb b 0x8E) (quiet (withShift c Ss2))
-    (cond (eqb b 0x8F) (quiet (withShift c Ss3))
-    (quiet c))))))
+    (cond (eqb b 0x8E) (unedited (withShift c Ss2))
+    (cond (eqb b 0x8F) (unedited (withShift c Ss3))
+    (unedited c))))))

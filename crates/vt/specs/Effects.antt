@@ -1,8 +1,8 @@
 -- A core with one field changed, and what a byte does to core and page.
 use mathlib.Core.Bool.{Bool}
 use Rattle.cells.specs.declared.Rendition.{Rendition}
-use Rattle.cells.specs.declared.Edit.{Edit}
-use Rattle.cells.specs.declared.Edit.the-variants.{Keep}
+use Rattle.page.specs.declared.Edit.{Edit}
+use Rattle.page.specs.declared.Edit.the-variants.{Keep}
 use Rattle.device.specs.declared.cursor.Cursor.{Cursor}
 use Rattle.device.specs.declared.tabs.Tabs.{Tabs}
 use Rattle.device.specs.declared.charsets.Sets.{Sets}
@@ -45,9 +45,9 @@ abbrev pub withParser : Core → Parser → Core
 withParser c x = record { rows = c .rows; cursor = c .cursor; margins = c .margins; tabs = c .tabs; modes = c .modes; rendition = c .rendition; protected = c .protected; sets = c .sets; shift = c .shift; saved = c .saved; parser = x }
 
 -- one step with this edit
-abbrev pub only : Core → Edit → Decision
-only c e = record { core = c; first = e; second = Keep }
+abbrev pub oneEdit : Core → Edit → Decision
+oneEdit c e = record { core = c; first = e; second = Keep }
 
 -- one step that leaves the page
-abbrev pub quiet : Core → Decision
-quiet c = only c Keep
+abbrev pub unedited : Core → Decision
+unedited c = oneEdit c Keep

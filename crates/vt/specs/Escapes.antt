@@ -4,18 +4,19 @@ use Prim.Native.Nat.{ℕ, _*_}
 use lib.Dec.{eqb}
 use Rattle.cells.specs.declared.CharSet.{CharSet}
 use Rattle.cells.specs.declared.CharSet.the-variants.{Ascii, SpecialGraphics, Supplemental, Latin1}
-use Rattle.cells.specs.declared.Edit.the-variants.{Fill}
+use Rattle.page.specs.declared.Edit.the-variants.{Fill}
 use Rattle.cells.specs.Cells.{plainCell, packed, blank}
 use Rattle.device.specs.declared.charsets.Register.{Register}
 use Rattle.device.specs.declared.charsets.Register.the-variants.{G0, G1, G2, G3}
-use Rattle.vt.specs.declared.core.Modes.{Modes}
 use Rattle.vt.specs.declared.core.Saved.{Saved}
 use Rattle.vt.specs.declared.core.Core.{Core}
 use Rattle.vt.specs.declared.core.Decision.{Decision}
 use Rattle.device.specs.Charsets.{designated, withGl, withGr}
 use Rattle.device.specs.Cursor.{place, restore}
 use Rattle.vt.specs.Fresh.{freshCore}
-use Rattle.vt.specs.Effects.{withCursor, withMargins, withModes, withRendition, withSets, withSaved, only, quiet}
+use Rattle.vt.specs.Geometry.{firstRow, lastRow}
+use Rattle.vt.specs.Modes.{withOrigin, withEightbit}
+use Rattle.vt.specs.Effects.{withCursor, withMargins, withModes, withRendition, withSets, withSaved, oneEdit, unedited}
 
 -- ---- ESC 7 and ESC 8 (DECSC, DECRC)
 
@@ -23,62 +24,57 @@ abbrev pub savedOf : Core → Saved
 savedOf c = record { cursor = c .cursor; rendition = c .rendition; origin = c .modes .origin; sets = c .sets }
 
 abbrev pub saveCursor : Core → Decision
-saveCursor c = quiet (withSaved c (savedOf c))
-
-abbrev pub withOrigin : Modes → Bool → Modes
-withOrigin m on = record { insert = m .insert; newline = m .newline; origin = on; autowrap = m .autowrap; shown = m .shown; eightbit = m .eightbit }
+saveCursor c = unedited (withSaved c (savedOf c))
 
 -- the row is held to T and B if origin is then on
+abbrev pub restoredFrom : Core → Saved → Core
+restoredFrom c s =
+    let d = withModes (withRendition (withSets c (s .sets)) (s .rendition)) (withOrigin (c .modes) (s .origin)) in
+    withCursor d (restore (s .cursor) (firstRow d) (lastRow d) (d .modes .autowrap))
+
 abbrev pub restoreCursor : Core → Decision
-restoreCursor c =
-    let s = c .saved in
-    let top = cond (s .origin) (c .margins .top) 1 in
-    let bottom = cond (s .origin) (c .margins .bottom) (c .rows) in
-    quiet (withCursor (withModes (withRendition (withSets c (s .sets)) (s .rendition)) (withOrigin (c .modes) (s .origin)))
-    (restore (s .cursor) top bottom (c .modes .autowrap)))
+restoreCursor c = unedited (restoredFrom c (c .saved))
 
 -- ---- ESC # 8 (DECALN) and ESC c (RIS)
 
 -- every cell plain E, margins full, cursor 1,1
 abbrev pub alignScreen : Core → Decision
-alignScreen c = only (withCursor (withMargins c (record { top = 1; bottom = c .rows })) (place 1 1)) (Fill 0 (80 * c .rows) (packed (plainCell 0x45)))
+alignScreen c = oneEdit (withCursor (withMargins c (record { top = 1; bottom = c .rows })) (place 1 1)) (Fill 0 (80 * c .rows) (packed (plainCell 0x45)))
 
 -- fresh, with the same R
 abbrev pub reset : Core → Decision
-reset c = only (freshCore (c .rows)) (Fill 0 (80 * c .rows) blank)
+reset c = oneEdit (freshCore (c .rows)) (Fill 0 (80 * c .rows) blank)
 
 -- ---- reply width and sets
 
 -- ESC sp F and G (S7C1T, S8C1T)
-abbrev pub withEightbit : Core → Bool → Decision
-withEightbit c on =
-    let m = c .modes in
-    quiet (withModes c (record { insert = m .insert; newline = m .newline; origin = m .origin; autowrap = m .autowrap; shown = m .shown; eightbit = on }))
+abbrev pub selectC1Transmission : Core → Bool → Decision
+selectC1Transmission c eightbit = unedited (withModes c (withEightbit (c .modes) eightbit))
 
 abbrev pub intoGl : Core → Register → Decision
-intoGl c r = quiet (withSets c (withGl (c .sets) r))
+intoGl c r = unedited (withSets c (withGl (c .sets) r))
 
 abbrev pub intoGr : Core → Register → Decision
-intoGr c r = quiet (withSets c (withGr (c .sets) r))
+intoGr c r = unedited (withSets c (withGr (c .sets) r))
 
 abbrev pub designate : Core → Register → CharSet → Decision
-designate c r s = quiet (withSets c (designated (c .sets) r s))
+designate c r s = unedited (withSets c (designated (c .sets) r s))
 
--- B, 0 and %5 designate 94-sign sets
+-- SCS: B, 0 and %5 designate 94-sign sets
 abbrev pub designate94 : Core → Register → ℕ → ℕ → Decision
 designate94 c r second last =
     cond (eqb second 0 && eqb last 0x42) (designate c r Ascii)
     (cond (eqb second 0 && eqb last 0x30) (designate c r SpecialGraphics)
     (cond (eqb second 0x25 && eqb last 0x35) (designate c r Supplemental)
-    (quiet c)))
+    (unedited c)))
 
--- A designates the 96-sign set
+-- SCS: A designates the 96-sign set
 abbrev pub designate96 : Core → Register → ℕ → ℕ → Decision
-designate96 c r second last = cond (eqb second 0 && eqb last 0x41) (designate c r Latin1) (quiet c)
+designate96 c r second last = cond (eqb second 0 && eqb last 0x41) (designate c r Latin1) (unedited c)
 
 -- ---- the sequences
 
--- with no intermediate: 7, 8, c, n, o, ~, }, |
+-- with no intermediate: 7 (DECSC), 8 (DECRC), c (RIS), n (LS2), o (LS3), ~ (LS1R), } (LS2R), | (LS3R)
 abbrev pub plainEscape : Core → ℕ → Decision
 plainEscape c last =
     cond (eqb last 0x37) (saveCursor c)
@@ -89,19 +85,19 @@ plainEscape c last =
     (cond (eqb last 0x7E) (intoGr c G1)
     (cond (eqb last 0x7D) (intoGr c G2)
     (cond (eqb last 0x7C) (intoGr c G3)
-    (quiet c))))))))
+    (unedited c))))))))
 
--- ESC sp F, ESC sp G
+-- ESC sp F (S7C1T), ESC sp G (S8C1T)
 abbrev pub spaceEscape : Core → ℕ → ℕ → Decision
 spaceEscape c second last =
-    cond (eqb second 0 && eqb last 0x46) (withEightbit c false)
-    (cond (eqb second 0 && eqb last 0x47) (withEightbit c true) (quiet c))
+    cond (eqb second 0 && eqb last 0x46) (selectC1Transmission c false)
+    (cond (eqb second 0 && eqb last 0x47) (selectC1Transmission c true) (unedited c))
 
--- ESC # 8
+-- ESC # 8 (DECALN)
 abbrev pub hashEscape : Core → ℕ → ℕ → Decision
-hashEscape c second last = cond (eqb second 0 && eqb last 0x38) (alignScreen c) (quiet c)
+hashEscape c second last = cond (eqb second 0 && eqb last 0x38) (alignScreen c) (unedited c)
 
--- sp, #, ( ) * +, - . /
+-- sp, #; ( ) * + and - . / (SCS)
 unfoldable pub escaped : Core → ℕ → ℕ → ℕ → Decision
 escaped c first second last =
     cond (eqb first 0) (plainEscape c last)
@@ -114,4 +110,4 @@ escaped c first second last =
     (cond (eqb first 0x2D) (designate96 c G1 second last)
     (cond (eqb first 0x2E) (designate96 c G2 second last)
     (cond (eqb first 0x2F) (designate96 c G3 second last)
-    (quiet c))))))))))
+    (unedited c))))))))))

@@ -3,7 +3,7 @@ use mathlib.Core.Bool.{true, false}
 use Prim.Native.Nat.{ℕ}
 use Rattle.cells.specs.Cells.{plain}
 use Rattle.device.specs.declared.charsets.SingleShift.the-variants.{NoShift}
-use Rattle.parser.specs.declared.parser.Phase.the-variants.{Ground}
+use Rattle.parser.specs.declared.phases.Phase.the-variants.{Ground}
 use Rattle.vt.specs.declared.core.Modes.{Modes}
 use Rattle.vt.specs.declared.core.Saved.{Saved}
 use Rattle.vt.specs.declared.core.Core.{Core}

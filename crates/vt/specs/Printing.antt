@@ -4,16 +4,21 @@ use Prim.Native.Nat.{ℕ, _-_, _%_}
 use lib.Dec.{eqb, ltb}
 use Rattle.cells.specs.declared.CharSet.{CharSet}
 use Rattle.cells.specs.declared.CharSet.the-variants.{Ascii}
-use Rattle.cells.specs.declared.Edit.{Edit}
-use Rattle.cells.specs.declared.Edit.the-variants.{Keep, Put, InsertCells, ScrollUp}
+use Rattle.page.specs.declared.Edit.{Edit}
+use Rattle.page.specs.declared.Edit.the-variants.{Keep, Put, InsertCells, ScrollUp}
 use Rattle.cells.specs.Cells.{packed}
 use Rattle.device.specs.declared.charsets.SingleShift.the-variants.{NoShift}
 use Rattle.device.specs.declared.cursor.Cursor.{Cursor}
+use Rattle.vt.specs.declared.core.Margins.{Margins}
+use Rattle.vt.specs.declared.core.Modes.{Modes}
 use Rattle.vt.specs.declared.core.Core.{Core}
 use Rattle.vt.specs.declared.core.Decision.{Decision}
+use Rattle.vt.specs.declared.geometry.Stops.{Stops}
+use Rattle.vt.specs.declared.printing.Printed.{Printed}
 use Rattle.device.specs.Charsets.{has96, leftSet, rightSet}
 use Rattle.device.specs.Cursor.{toColumn, index, advance}
-use Rattle.vt.specs.Effects.{withCursor, withShift, only, quiet}
+use Rattle.vt.specs.Geometry.{stopsOf}
+use Rattle.vt.specs.Effects.{withCursor, withShift, unedited}
 
 -- ---- the cell
 
@@ -37,46 +42,59 @@ cellWord c code s = packed (record { code = code; set = s; rendition = c .rendit
 abbrev pub glyph : Core → ℕ → ℕ
 glyph c b = cellWord c (b % 128) (shownSet (usedSet c b) b)
 
--- ---- the steps
+-- ---- the edits
 
 -- IND at the bottom margin: rows T to B scroll up
-abbrev pub indexEdit : Core → Cursor → Edit
-indexEdit c u = cond (eqb (u .row) (c .margins .bottom)) (ScrollUp (c .margins .top - 1) (c .margins .bottom) 0 80 1) Keep
+abbrev pub indexEdit : Margins → Stops → Cursor → Edit
+indexEdit m g u = cond (eqb (u .row) (m .bottom)) (ScrollUp (m .top - 1) (m .bottom) (g .left - 1) (g .right) 1) Keep
 
 -- the cell is put; in insert mode the cells from the cursor move right one and the last is lost
-abbrev pub putEdit : Core → Cursor → ℕ → Edit
-putEdit c u w = cond (c .modes .insert) (InsertCells (u .row - 1) (u .column - 1) 80 1 w) (Put (u .row - 1) (u .column - 1) w)
+abbrev pub putEdit : Bool → Stops → Cursor → ℕ → Edit
+putEdit insert g u w = cond insert (InsertCells (u .row - 1) (u .column - 1) (g .right) 1 w) (Put (u .row - 1) (u .column - 1) w)
 
--- then the cursor goes on
-abbrev pub advanced : Core → Cursor → Core
-advanced c u = withCursor c (advance u 80 (c .modes .autowrap))
+-- ---- the printing rule, over the parts of a core that it reads
+
+-- the cell is put, and the cursor goes on
+abbrev pub printHere : Modes → Stops → Cursor → ℕ → Printed
+printHere s g u w = record { cursor = advance u (g .right) (s .autowrap); first = putEdit (s .insert) g u w; second = Keep }
 
 -- with wrap due, column 1 and IND, a step of its own
-abbrev pub lineStart : Cursor → Cursor
-lineStart u = toColumn u 1
+abbrev pub lineStart : Stops → Cursor → Cursor
+lineStart g u = toColumn u (g .left)
 
-abbrev pub nextLine : Core → Cursor
-nextLine c = index (lineStart (c .cursor)) (c .margins .bottom) (c .rows)
+abbrev pub nextLine : Margins → ℕ → Stops → Cursor → Cursor
+nextLine m rows g u = index (lineStart g u) (m .bottom) rows
 
-abbrev pub wrapAndPut : Core → ℕ → Decision
-wrapAndPut c w = record {
-  core = advanced c (nextLine c);
-  first = indexEdit c (lineStart (c .cursor));
-  second = putEdit c (nextLine c) w;
+-- where the character goes
+abbrev pub printPlace : Cursor → Margins → ℕ → Stops → Cursor
+printPlace u m rows g = cond (u .wrap) (nextLine m rows g u) u
+
+abbrev pub printBelow : Cursor → Margins → ℕ → Modes → Stops → ℕ → Printed
+printBelow u m rows s g w = record {
+  cursor = advance (nextLine m rows g u) (g .right) (s .autowrap);
+  first = indexEdit m g (lineStart g u);
+  second = putEdit (s .insert) g (nextLine m rows g u) w;
 }
 
-abbrev pub putHere : Core → ℕ → Decision
-putHere c w = only (advanced c (c .cursor)) (putEdit c (c .cursor) w)
+abbrev pub printAt : Cursor → Margins → ℕ → Modes → Stops → ℕ → Printed
+printAt u m rows s g w = cond (u .wrap) (printBelow u m rows s g w) (printHere s g u w)
 
--- the printing rule
+-- by the parts of a core
+abbrev pub printWord : Core → ℕ → Printed
+printWord c w = printAt (c .cursor) (c .margins) (c .rows) (c .modes) (stopsOf c) w
+
+-- put into a core
+abbrev pub printedIn : Core → Printed → Decision
+printedIn c p = record { core = withCursor c (p .cursor); first = p .first; second = p .second }
+
 unfoldable pub put : Core → ℕ → Decision
-put c w = cond (c .cursor .wrap) (wrapAndPut c w) (putHere c w)
+put c w = printedIn c (printWord c w)
 
 -- ---- a byte 20 to 7F or A0 to FF, and SUB
 
 unfoldable pub printed : Core → ℕ → Decision
 printed c b =
-    cond (skipped (usedSet c b) b) (quiet c) (put (withShift c NoShift) (glyph c b))
+    cond (skipped (usedSet c b) b) (unedited c) (put (withShift c NoShift) (glyph c b))
 
 -- code 1A of ASCII; it uses no set, and a pending shift stays
 unfoldable pub substituted : Core → Decision

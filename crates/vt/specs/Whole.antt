@@ -2,11 +2,16 @@
 use mathlib.Core.Path.{_≡_}
 use mathlib.Core.Bool.{Bool, true, _&&_, _||_}
 use mathlib.Core.List.{List, [], _∷_}
-use Prim.Native.Nat.{ℕ, _≤_, _<_}
+use Prim.Native.Nat.{ℕ, _≤_}
 use lib.Dec.{eqb, leb, ltb}
+use Rattle.parser.specs.declared.parser.Parser.{Parser}
+use Rattle.device.specs.declared.cursor.Cursor.{Cursor}
 use Rattle.vt.specs.declared.core.Core.{Core}
-use Rattle.parser.specs.Parser.{between}
-use Rattle.parser.specs.WholeParser.{implies, all, parserTests, WholeParser}
+use Rattle.vt.specs.declared.core.Margins.{Margins}
+use Rattle.vt.specs.Bounds.{OnPage, Bounded}
+use Rattle.ground.specs.Tests.{between}
+use Rattle.parser.specs.WholeParser.{parserTests, WholeParser}
+use Rattle.ground.specs.Tests.{implies, all}
 
 -- R is 24, 36 or 48
 abbrev pub sized : ℕ → Bool
@@ -28,27 +33,36 @@ coreTests c =
 unfoldable pub wholeCore : Core → Bool
 wholeCore c = all (coreTests c) && all (parserTests (c .parser))
 
--- ---- the same, a fact for each clause
+-- ---- the same but for the size, a fact for each clause: on a page of any number of rows
 
--- `rows-low` and `rows-high` follow from `size`, and are there for arithmetic
+-- wrap due only in column 80 with autowrap on
+pub record WrapHeld (wrap : Bool) (at : ℕ) (autowrap : Bool) : Type 0 where
+  pub column : wrap ≡ true → at ≡ 80
+  pub mode : wrap ≡ true → autowrap ≡ true
+
+-- with origin on, the row is between the margins
+pub record OriginHeld (origin : Bool) (m : Margins) (row : ℕ) : Type 0 where
+  pub low : origin ≡ true → m .top ≤ row
+  pub high : origin ≡ true → row ≤ m .bottom
+
+pub record SavedHeld (rows : ℕ) (u : Cursor) : Type 0 where
+  pub place : OnPage rows (u .row) (u .column)
+  pub wrap : u .wrap ≡ true → u .column ≡ 80
+
+-- all but wrap due: over the parts that it speaks of, so that a change of another leaves it as it is
+pub record Held (rows row column : ℕ) (m : Margins) (o : Bool) (u : Cursor) (q : Parser) : Type 0 where
+  pub bounds : Bounded rows row column m
+  pub origin : OriginHeld o m row
+  pub saved : SavedHeld rows u
+  pub parser : WholeParser q
+
+abbrev pub Parts : Core → Type 0
+Parts c = Held (c .rows) (c .cursor .row) (c .cursor .column) (c .margins) (c .modes .origin) (c .saved .cursor) (c .parser)
+
+abbrev pub WrapOf : Core → Type 0
+WrapOf c = WrapHeld (c .cursor .wrap) (c .cursor .column) (c .modes .autowrap)
+
+-- `wholeCore c` is `Whole c` and `sized (c .rows)`
 pub record Whole (c : Core) : Type 0 where
-  pub size : sized (c .rows) ≡ true
-  pub rows-low : 24 ≤ c .rows
-  pub rows-high : c .rows ≤ 48
-  pub row-low : 1 ≤ c .cursor .row
-  pub row-high : c .cursor .row ≤ c .rows
-  pub column-low : 1 ≤ c .cursor .column
-  pub column-high : c .cursor .column ≤ 80
-  pub top : 1 ≤ c .margins .top
-  pub scrolls : c .margins .top < c .margins .bottom
-  pub bottom : c .margins .bottom ≤ c .rows
-  pub wrap-column : c .cursor .wrap ≡ true → c .cursor .column ≡ 80
-  pub wrap-mode : c .cursor .wrap ≡ true → c .modes .autowrap ≡ true
-  pub origin-top : c .modes .origin ≡ true → c .margins .top ≤ c .cursor .row
-  pub origin-bottom : c .modes .origin ≡ true → c .cursor .row ≤ c .margins .bottom
-  pub saved-row-low : 1 ≤ c .saved .cursor .row
-  pub saved-row-high : c .saved .cursor .row ≤ c .rows
-  pub saved-column-low : 1 ≤ c .saved .cursor .column
-  pub saved-column-high : c .saved .cursor .column ≤ 80
-  pub saved-wrap : c .saved .cursor .wrap ≡ true → c .saved .cursor .column ≡ 80
-  pub parser : WholeParser (c .parser)
+  pub parts : Parts c
+  pub wrap : WrapOf c

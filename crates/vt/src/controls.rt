@@ -2,19 +2,20 @@
 use crate::core::Core;
 use crate::core::Decision;
 use crate::core::Margins;
-use crate::effects::only;
-use crate::effects::quiet;
+use crate::effects::one_edit;
+use crate::effects::unedited;
 use crate::effects::with_shift;
+use crate::geometry::Stops;
+use crate::geometry::left_stop;
+use crate::geometry::right_stop;
+use crate::geometry::stops_of;
 use crate::printing::index_edit;
-use cells::Edit;
 use device::charsets::Register;
 use device::charsets::SingleShift;
 use device::cursor::Cursor;
+use page::Edit;
 ghost use mathlib.Core.Path.{_≡_};
-ghost use mathlib.Core.Bool.{cond};
-ghost use Prim.Native.Nat.{_-_, _≤_};
-ghost use lib.Dec.{eqb};
-ghost use Rattle.cells.specs.declared.Edit.the-variants.{Keep, ScrollDown};
+ghost use Prim.Native.Nat.{_≤_};
 ghost use Rattle.vt.specs.Bounds.{Bounds};
 ghost use Rattle.vt.specs.Escapes.{intoGl};
 ghost use Rattle.vt.specs.Effects as effects;
@@ -28,9 +29,10 @@ fn index_from(mut core: Core, cursor: Cursor) -> Decision
     ensures { λ r. ⌜ r ≡ controls.indexFrom core cursor ⌝ }
 {
     let margins = core.margins;
-    let edit = index_edit(margins, cursor);
+    let stops = stops_of(core);
+    let edit = index_edit(margins, stops, cursor);
     core.cursor = cursor.index(margins.bottom, core.rows);
-    only(core, edit)
+    one_edit(core, edit)
 }
 
 // IND.
@@ -48,7 +50,7 @@ fn next_line(core: Core) -> Decision
     ensures { λ r. ⌜ r ≡ controls.nextLined core ⌝ }
 {
     let cursor = core.cursor;
-    index_from(core, cursor.to_column(1))
+    index_from(core, cursor.to_column(left_stop(core)))
 }
 
 // LF, VT, FF: IND, and column 1 in newline mode.
@@ -63,16 +65,16 @@ fn line_feed(core: Core) -> Decision
 }
 
 // RI at the top margin: rows T to B scroll down.
-fn reverse_index_edit(margins: Margins, cursor: Cursor) -> Edit
-    requires { ⌜ 1 ≤ margins .top ⌝ }
-    ensures { λ r. ⌜ r ≡ cond (eqb (cursor .row) (margins .top)) (ScrollDown (margins .top - 1) (margins .bottom) 0 80 1) Keep ⌝ }
+fn reverse_index_edit(margins: Margins, stops: Stops, cursor: Cursor) -> Edit
+    requires { ⌜ (1 ≤ margins .top) × (1 ≤ stops .left) ⌝ }
+    ensures { λ r. ⌜ r ≡ controls.reverseIndexEdit margins stops cursor ⌝ }
 {
     if cursor.row == margins.top {
         return Edit::ScrollDown {
             top: margins.top - 1,
             end: margins.bottom,
-            left: 0,
-            right: 80,
+            left: stops.left - 1,
+            right: stops.right,
             count: 1,
         };
     }
@@ -86,30 +88,31 @@ fn reverse_index(mut core: Core) -> Decision
 {
     let cursor = core.cursor;
     let margins = core.margins;
-    let edit = reverse_index_edit(margins, cursor);
+    let stops = stops_of(core);
+    let edit = reverse_index_edit(margins, stops, cursor);
     core.cursor = cursor.reverse_index(margins.top);
-    only(core, edit)
+    one_edit(core, edit)
 }
 
 // ---- columns
 
-// BS: left, stops at 1.
+// BS: left, to the left stop.
 fn backspace(mut core: Core) -> Decision
     ensures { λ r. ⌜ r ≡ controls.backspaced core ⌝ }
 {
     let cursor = core.cursor;
-    core.cursor = cursor.left(1, 1);
-    quiet(core)
+    core.cursor = cursor.left(1, left_stop(core));
+    unedited(core)
 }
 
-// HT: the next tab, else 80.
+// HT: the next tab, else the right stop.
 fn horizontal_tab(mut core: Core) -> Decision
     ensures { λ r. ⌜ r ≡ controls.tabbed core ⌝ }
 {
     let cursor = core.cursor;
     let tabs = core.tabs;
-    core.cursor = cursor.tab(tabs, 80);
-    quiet(core)
+    core.cursor = cursor.tab(tabs, right_stop(core));
+    unedited(core)
 }
 
 // CR: column 1.
@@ -117,8 +120,8 @@ fn carriage_return(mut core: Core) -> Decision
     ensures { λ r. ⌜ r ≡ controls.returned core ⌝ }
 {
     let cursor = core.cursor;
-    core.cursor = cursor.to_column(1);
-    quiet(core)
+    core.cursor = cursor.to_column(left_stop(core));
+    unedited(core)
 }
 
 // HTS: a tab at the cursor's column.
@@ -128,7 +131,7 @@ fn set_tab(mut core: Core) -> Decision
 {
     let tabs = core.tabs;
     core.tabs = tabs.set(core.cursor.column);
-    quiet(core)
+    unedited(core)
 }
 
 // ---- sets
@@ -139,14 +142,14 @@ pub fn into_gl(mut core: Core, register: Register) -> Decision
 {
     let sets = core.sets;
     core.sets = sets.into_gl(register);
-    quiet(core)
+    unedited(core)
 }
 
 // SS2, SS3.
 fn single_shift(core: Core, shift: SingleShift) -> Decision
-    ensures { λ r. ⌜ r ≡ effects.quiet (effects.withShift core shift) ⌝ }
+    ensures { λ r. ⌜ r ≡ effects.unedited (effects.withShift core shift) ⌝ }
 {
-    quiet(with_shift(core, shift))
+    unedited(with_shift(core, shift))
 }
 
 // ---- the controls
@@ -156,15 +159,15 @@ pub fn control(core: Core, byte: u8) -> Decision
     ensures { λ r. ⌜ r ≡ controls.controlled core byte ⌝ }
 {
     match byte {
-        0x08 => backspace(core),
-        0x09 => horizontal_tab(core),
-        0x0A => line_feed(core),
-        0x0B => line_feed(core),
-        0x0C => line_feed(core),
-        0x0D => carriage_return(core),
-        0x0E => into_gl(core, Register::G1),
-        0x0F => into_gl(core, Register::G0),
-        _ => quiet(core),
+        0x08 => backspace(core), // BS
+        0x09 => horizontal_tab(core), // HT
+        0x0A => line_feed(core), // LF
+        0x0B => line_feed(core), // VT
+        0x0C => line_feed(core), // FF
+        0x0D => carriage_return(core), // CR
+        0x0E => into_gl(core, Register::G1), // SO
+        0x0F => into_gl(core, Register::G0), // SI
+        _ => unedited(core),
     }
 }
 
@@ -173,12 +176,12 @@ pub fn c1_control(core: Core, byte: u8) -> Decision
     ensures { λ r. ⌜ r ≡ controls.c1Controlled core byte ⌝ }
 {
     match byte {
-        0x84 => index(core),
-        0x85 => next_line(core),
-        0x88 => set_tab(core),
-        0x8D => reverse_index(core),
-        0x8E => single_shift(core, SingleShift::Ss2),
-        0x8F => single_shift(core, SingleShift::Ss3),
-        _ => quiet(core),
+        0x84 => index(core), // IND
+        0x85 => next_line(core), // NEL
+        0x88 => set_tab(core), // HTS
+        0x8D => reverse_index(core), // RI
+        0x8E => single_shift(core, SingleShift::Ss2), // SS2
+        0x8F => single_shift(core, SingleShift::Ss3), // SS3
+        _ => unedited(core),
     }
 }

@@ -1,10 +1,10 @@
 // The state of the terminal, but for the changed rows.
-use cells::Edit;
 use cells::Rendition;
 use device::charsets::Sets;
 use device::charsets::SingleShift;
 use device::cursor::Cursor;
 use device::tabs::Tabs;
+use page::Edit;
 use parser::parser::Parser;
 
 // Rows T to B scroll.

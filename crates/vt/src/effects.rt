@@ -1,15 +1,15 @@
 // What a byte does to core and page, put together.
 use crate::core::Core;
 use crate::core::Decision;
-use cells::Edit;
 use device::charsets::SingleShift;
+use page::Edit;
 ghost use mathlib.Core.Path.{_≡_};
 ghost use Rattle.device.specs.declared.charsets.SingleShift.the-variants.{NoShift};
 ghost use Rattle.vt.specs.Effects as effects;
 
 // One step with this edit.
-pub fn only(core: Core, edit: Edit) -> Decision
-    ensures { λ r. ⌜ r ≡ effects.only core edit ⌝ }
+pub fn one_edit(core: Core, edit: Edit) -> Decision
+    ensures { λ r. ⌜ r ≡ effects.oneEdit core edit ⌝ }
 {
     Decision {
         core,
@@ -19,8 +19,8 @@ pub fn only(core: Core, edit: Edit) -> Decision
 }
 
 // One step that leaves the page.
-pub fn quiet(core: Core) -> Decision
-    ensures { λ r. ⌜ r ≡ effects.quiet core ⌝ }
+pub fn unedited(core: Core) -> Decision
+    ensures { λ r. ⌜ r ≡ effects.unedited core ⌝ }
 {
     Decision {
         core,

@@ -4,14 +4,16 @@ use crate::core::Core;
 use crate::core::Decision;
 use crate::core::Margins;
 use crate::core::Saved;
-use crate::effects::only;
-use crate::effects::quiet;
+use crate::effects::one_edit;
+use crate::effects::unedited;
 use crate::fresh::fresh_core;
 use crate::fresh::fresh_cursor;
+use crate::geometry::first_row;
+use crate::geometry::last_row;
+use cells::BLANK;
 use cells::CharSet;
-use cells::Edit;
 use device::charsets::Register;
-use parser::numbers::pick;
+use page::Edit;
 ghost use mathlib.Core.Path.{_≡_};
 ghost use Rattle.vt.specs.Escapes as escapes;
 
@@ -31,24 +33,31 @@ fn save_cursor(mut core: Core) -> Decision
         sets,
     };
     core.saved = saved;
-    quiet(core)
+    unedited(core)
 }
 
-// DECRC: the row is held to T and B if origin is then on.
-fn restore_cursor(mut core: Core) -> Decision
-    ensures { λ r. ⌜ r ≡ escapes.restoreCursor core ⌝ }
+// The row is held to T and B if origin is then on.
+pub fn restore_from(mut core: Core, saved: Saved) -> Core
+    ensures { λ r. ⌜ r ≡ escapes.restoredFrom core saved ⌝ }
 {
-    let saved = core.saved;
     let cursor = saved.cursor;
     let rendition = saved.rendition;
     let sets = saved.sets;
-    let top = pick(saved.origin, core.margins.top, 1);
-    let bottom = pick(saved.origin, core.margins.bottom, core.rows);
     core.sets = sets;
     core.rendition = rendition;
     core.modes.origin = saved.origin;
+    let top = first_row(core);
+    let bottom = last_row(core);
     core.cursor = cursor.restore(top, bottom, core.modes.autowrap);
-    quiet(core)
+    core
+}
+
+// DECRC.
+fn restore_cursor(core: Core) -> Decision
+    ensures { λ r. ⌜ r ≡ escapes.restoreCursor core ⌝ }
+{
+    let saved = core.saved;
+    unedited(restore_from(core, saved))
 }
 
 // ---- ESC # 8 and ESC c
@@ -64,7 +73,7 @@ fn align_screen(mut core: Core) -> Decision
     };
     core.margins = margins;
     core.cursor = fresh_cursor();
-    only(
+    one_edit(
         core,
         Edit::Fill {
             from: 0,
@@ -79,12 +88,12 @@ fn reset(core: Core) -> Decision
     ensures { λ r. ⌜ r ≡ escapes.reset core ⌝ }
 {
     let rows = core.rows;
-    only(
+    one_edit(
         fresh_core(rows),
         Edit::Fill {
             from: 0,
             to: 80 * (rows as u16),
-            word: 0x20,
+            word: BLANK,
         },
     )
 }
@@ -92,11 +101,11 @@ fn reset(core: Core) -> Decision
 // ---- reply width and sets
 
 // S7C1T, S8C1T.
-fn with_eightbit(mut core: Core, on: bool) -> Decision
-    ensures { λ r. ⌜ r ≡ escapes.withEightbit core on ⌝ }
+fn select_c1_transmission(mut core: Core, eightbit: bool) -> Decision
+    ensures { λ r. ⌜ r ≡ escapes.selectC1Transmission core eightbit ⌝ }
 {
-    core.modes.eightbit = on;
-    quiet(core)
+    core.modes.eightbit = eightbit;
+    unedited(core)
 }
 
 // The locking shifts of GR.
@@ -105,7 +114,7 @@ fn into_gr(mut core: Core, register: Register) -> Decision
 {
     let sets = core.sets;
     core.sets = sets.into_gr(register);
-    quiet(core)
+    unedited(core)
 }
 
 // SCS.
@@ -114,7 +123,7 @@ fn designate(mut core: Core, register: Register, set: CharSet) -> Decision
 {
     let sets = core.sets;
     core.sets = sets.designate(register, set);
-    quiet(core)
+    unedited(core)
 }
 
 // B, 0 and %5 designate 94-sign sets.
@@ -130,7 +139,7 @@ fn designate_94(core: Core, register: Register, second: u8, last: u8) -> Decisio
     if (second == 0x25) & (last == 0x35) {
         return designate(core, register, CharSet::Supplemental);
     }
-    quiet(core)
+    unedited(core)
 }
 
 // A designates the 96-sign set.
@@ -140,7 +149,7 @@ fn designate_96(core: Core, register: Register, second: u8, last: u8) -> Decisio
     if (second == 0) & (last == 0x41) {
         return designate(core, register, CharSet::Latin1);
     }
-    quiet(core)
+    unedited(core)
 }
 
 // ---- the sequences
@@ -150,39 +159,39 @@ fn plain_escape(core: Core, last: u8) -> Decision
     ensures { λ r. ⌜ r ≡ escapes.plainEscape core last ⌝ }
 {
     match last {
-        0x37 => save_cursor(core),
-        0x38 => restore_cursor(core),
-        0x63 => reset(core),
-        0x6E => into_gl(core, Register::G2),
-        0x6F => into_gl(core, Register::G3),
-        0x7E => into_gr(core, Register::G1),
-        0x7D => into_gr(core, Register::G2),
-        0x7C => into_gr(core, Register::G3),
-        _ => quiet(core),
+        0x37 => save_cursor(core), // DECSC
+        0x38 => restore_cursor(core), // DECRC
+        0x63 => reset(core), // RIS
+        0x6E => into_gl(core, Register::G2), // LS2
+        0x6F => into_gl(core, Register::G3), // LS3
+        0x7E => into_gr(core, Register::G1), // LS1R
+        0x7D => into_gr(core, Register::G2), // LS2R
+        0x7C => into_gr(core, Register::G3), // LS3R
+        _ => unedited(core),
     }
 }
 
-// ESC sp F, ESC sp G.
+// ESC sp F (S7C1T), ESC sp G (S8C1T).
 fn space_escape(core: Core, second: u8, last: u8) -> Decision
     ensures { λ r. ⌜ r ≡ escapes.spaceEscape core second last ⌝ }
 {
     if (second == 0) & (last == 0x46) {
-        return with_eightbit(core, false);
+        return select_c1_transmission(core, false);
     }
     if (second == 0) & (last == 0x47) {
-        return with_eightbit(core, true);
+        return select_c1_transmission(core, true);
     }
-    quiet(core)
+    unedited(core)
 }
 
-// ESC # 8.
+// ESC # 8 (DECALN).
 fn hash_escape(core: Core, second: u8, last: u8) -> Decision
     ensures { λ r. ⌜ r ≡ escapes.hashEscape core second last ⌝ }
 {
     if (second == 0) & (last == 0x38) {
         return align_screen(core);
     }
-    quiet(core)
+    unedited(core)
 }
 
 pub fn escape(core: Core, first: u8, second: u8, last: u8) -> Decision
@@ -190,15 +199,15 @@ pub fn escape(core: Core, first: u8, second: u8, last: u8) -> Decision
 {
     match first {
         0 => plain_escape(core, last),
-        0x20 => space_escape(core, second, last),
-        0x23 => hash_escape(core, second, last),
-        0x28 => designate_94(core, Register::G0, second, last),
-        0x29 => designate_94(core, Register::G1, second, last),
-        0x2A => designate_94(core, Register::G2, second, last),
-        0x2B => designate_94(core, Register::G3, second, last),
-        0x2D => designate_96(core, Register::G1, second, last),
-        0x2E => designate_96(core, Register::G2, second, last),
-        0x2F => designate_96(core, Register::G3, second, last),
-        _ => quiet(core),
+        0x20 => space_escape(core, second, last), // S7C1T, S8C1T
+        0x23 => hash_escape(core, second, last), // DECALN
+        0x28 => designate_94(core, Register::G0, second, last), // SCS
+        0x29 => designate_94(core, Register::G1, second, last), // SCS
+        0x2A => designate_94(core, Register::G2, second, last), // SCS
+        0x2B => designate_94(core, Register::G3, second, last), // SCS
+        0x2D => designate_96(core, Register::G1, second, last), // SCS
+        0x2E => designate_96(core, Register::G2, second, last), // SCS
+        0x2F => designate_96(core, Register::G3, second, last), // SCS
+        _ => unedited(core),
     }
 }

@@ -9,7 +9,7 @@ use device::charsets::SingleShift;
 use device::cursor::Cursor;
 use device::tabs::Tabs;
 use parser::parser::Parser;
-use parser::parser::Phase;
+use parser::phases::Phase;
 ghost use mathlib.Core.Path.{_≡_};
 ghost use Rattle.cells.specs.Cells.{plain};
 ghost use Rattle.device.specs.Tabs.{everyEighth};

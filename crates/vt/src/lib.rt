@@ -4,5 +4,6 @@ pub mod core;
 pub mod effects;
 pub mod escapes;
 pub mod fresh;
+pub mod geometry;
 pub mod printing;
 pub mod whole;

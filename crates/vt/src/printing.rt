@@ -3,24 +3,24 @@ use crate::core::Core;
 use crate::core::Decision;
 use crate::core::Margins;
 use crate::core::Modes;
-use crate::effects::quiet;
+use crate::effects::unedited;
 use crate::effects::without_shift;
+use crate::geometry::Stops;
+use crate::geometry::stops_of;
 use cells::Cell;
 use cells::CharSet;
-use cells::Edit;
 use cells::words::pack;
 use device::charsets::Sets;
 use device::charsets::SingleShift;
 use device::charsets::has_96;
 use device::cursor::Cursor;
+use page::Edit;
 ghost use mathlib.Core.Path.{_≡_};
 ghost use mathlib.Core.Bool.{cond};
-ghost use Prim.Native.Nat.{_-_, _≤_};
-ghost use lib.Dec.{eqb, ltb};
-ghost use Rattle.cells.specs.declared.Edit.the-variants.{Keep, Put, InsertCells, ScrollUp};
+ghost use Prim.Native.Nat.{_≤_};
+ghost use lib.Dec.{ltb};
 ghost use Rattle.vt.specs.Bounds.{Bounds};
 ghost use Rattle.device.specs.Charsets.{leftSet, rightSet};
-ghost use Rattle.vt.specs.Strokes.{stroke};
 ghost use Rattle.vt.specs.Printing as printing;
 
 // ---- the cell
@@ -78,16 +78,16 @@ pub fn glyph(core: Core, byte: u8) -> u16
 // ---- the edits
 
 // IND at the bottom margin: rows T to B scroll up.
-pub fn index_edit(margins: Margins, cursor: Cursor) -> Edit
-    requires { ⌜ 1 ≤ margins .top ⌝ }
-    ensures { λ r. ⌜ r ≡ cond (eqb (cursor .row) (margins .bottom)) (ScrollUp (margins .top - 1) (margins .bottom) 0 80 1) Keep ⌝ }
+pub fn index_edit(margins: Margins, stops: Stops, cursor: Cursor) -> Edit
+    requires { ⌜ (1 ≤ margins .top) × (1 ≤ stops .left) ⌝ }
+    ensures { λ r. ⌜ r ≡ printing.indexEdit margins stops cursor ⌝ }
 {
     if cursor.row == margins.bottom {
         return Edit::ScrollUp {
             top: margins.top - 1,
             end: margins.bottom,
-            left: 0,
-            right: 80,
+            left: stops.left - 1,
+            right: stops.right,
             count: 1,
         };
     }
@@ -95,9 +95,9 @@ pub fn index_edit(margins: Margins, cursor: Cursor) -> Edit
 }
 
 // The cell is put; in insert mode the cells from the cursor move right one.
-fn put_edit(insert: bool, cursor: Cursor, word: u16) -> Edit
+fn put_edit(insert: bool, stops: Stops, cursor: Cursor, word: u16) -> Edit
     requires { ⌜ (1 ≤ cursor .row) × (1 ≤ cursor .column) ⌝ }
-    ensures { λ r. ⌜ r ≡ cond insert (InsertCells (cursor .row - 1) (cursor .column - 1) 80 1 word) (Put (cursor .row - 1) (cursor .column - 1) word) ⌝ }
+    ensures { λ r. ⌜ r ≡ printing.putEdit insert stops cursor word ⌝ }
 {
     let row = cursor.row - 1;
     let column = cursor.column - 1;
@@ -105,7 +105,7 @@ fn put_edit(insert: bool, cursor: Cursor, word: u16) -> Edit
         return Edit::InsertCells {
             row,
             column,
-            end: 80,
+            end: stops.right,
             count: 1,
             word,
         };
@@ -113,48 +113,76 @@ fn put_edit(insert: bool, cursor: Cursor, word: u16) -> Edit
     Edit::Put { row, column, word }
 }
 
-// ---- the printing rule by its parts, with no core to copy
+// ---- the printing rule, over the parts of a core that it reads
 
 // Where the cursor goes, and the edits.
-pub struct Stroke {
+pub struct Printed {
     pub cursor: Cursor,
     pub first: Edit,
     pub second: Edit,
 }
 
-pub fn strike(cursor: Cursor, margins: Margins, rows: u8, modes: Modes, word: u16) -> Stroke
-    requires { ⌜ (1 ≤ cursor .row) × (cursor .row ≤ rows) × (1 ≤ cursor .column) × (1 ≤ margins .top) ⌝ }
-    ensures { λ r. ⌜ r ≡ stroke cursor margins rows modes word ⌝ }
+// Where the character goes: with wrap due, to the first column of the next line.
+fn print_place(cursor: Cursor, margins: Margins, rows: u8, stops: Stops) -> Cursor
+    requires { ⌜ cursor .row ≤ rows ⌝ }
+    ensures { λ r. ⌜ r ≡ printing.printPlace cursor margins rows stops ⌝ }
 {
     if cursor.wrap {
-        let start = cursor.to_column(1);
-        let next = start.index(margins.bottom, rows);
-        return Stroke {
-            cursor: next.advance(80, modes.autowrap),
-            first: index_edit(margins, start),
-            second: put_edit(modes.insert, next, word),
+        let start = cursor.to_column(stops.left);
+        return start.index(margins.bottom, rows);
+    }
+    cursor
+}
+
+fn print_at(
+    cursor: Cursor,
+    margins: Margins,
+    rows: u8,
+    modes: Modes,
+    stops: Stops,
+    word: u16,
+) -> Printed
+    requires { ⌜ (1 ≤ cursor .row) × (cursor .row ≤ rows) × (1 ≤ cursor .column) × (1 ≤ margins .top) × (1 ≤ stops .left) ⌝ }
+    ensures { λ r. ⌜ r ≡ printing.printAt cursor margins rows modes stops word ⌝ }
+{
+    let place = print_place(cursor, margins, rows, stops);
+    let put = put_edit(modes.insert, stops, place, word);
+    let next = place.advance(stops.right, modes.autowrap);
+    if cursor.wrap {
+        let start = cursor.to_column(stops.left);
+        return Printed {
+            cursor: next,
+            first: index_edit(margins, stops, start),
+            second: put,
         };
     }
-    Stroke {
-        cursor: cursor.advance(80, modes.autowrap),
-        first: put_edit(modes.insert, cursor, word),
+    Printed {
+        cursor: next,
+        first: put,
         second: Edit::Keep,
     }
 }
 
-// ---- the printing rule
-
-pub fn put(mut core: Core, word: u16) -> Decision
+// By the parts of a core.
+fn print_word(core: Core, word: u16) -> Printed
     requires { ⌜ Bounds core ⌝ }
-    ensures { λ r. ⌜ r ≡ printing.put core word ⌝ }
+    ensures { λ r. ⌜ r ≡ printing.printWord core word ⌝ }
 {
     let cursor = core.cursor;
     let margins = core.margins;
     let modes = core.modes;
-    let struck = strike(cursor, margins, core.rows, modes, word);
-    let next = struck.cursor;
-    let first = struck.first;
-    let second = struck.second;
+    let stops = stops_of(core);
+    print_at(cursor, margins, core.rows, modes, stops, word)
+}
+
+// The cursor and the edits are put into the core. (A function that calls both would be too long for the
+// compiler to put into its two callers, and the core would go through memory.)
+fn printed_in(mut core: Core, printed: Printed) -> Decision
+    ensures { λ r. ⌜ r ≡ printing.printedIn core printed ⌝ }
+{
+    let next = printed.cursor;
+    let first = printed.first;
+    let second = printed.second;
     core.cursor = next;
     Decision {
         core,
@@ -162,6 +190,8 @@ pub fn put(mut core: Core, word: u16) -> Decision
         second,
     }
 }
+
+// ---- a byte 20 to 7F or A0 to FF, and SUB
 
 pub fn print(core: Core, byte: u8) -> Decision
     requires { ⌜ Bounds core ⌝ }
@@ -172,9 +202,9 @@ pub fn print(core: Core, byte: u8) -> Decision
     let set = used_set(sets, shift, byte);
     let next = without_shift(core);
     if skipped(set, byte) {
-        return quiet(core);
+        return unedited(core);
     }
-    put(next, glyph(core, byte))
+    printed_in(next, print_word(next, glyph(core, byte)))
 }
 
 // SUB: code 1A of ASCII. It uses no set, and a pending shift stays.
@@ -183,5 +213,5 @@ pub fn substitute(core: Core) -> Decision
     ensures { λ r. ⌜ r ≡ printing.substituted core ⌝ }
 {
     let word = cell_word(core, 0x1A, CharSet::Ascii);
-    put(core, word)
+    printed_in(core, print_word(core, word))
 }

@@ -1,9 +1,9 @@
 // Whether a state is whole.
 use crate::core::Core;
-use parser::rules::between;
+use ground::tests::between;
 use parser::whole::is_whole_parser;
 ghost use mathlib.Core.Path.{_≡_};
-ghost use Rattle.parser.specs.WholeParser.{all};
+ghost use Rattle.ground.specs.Tests.{all};
 ghost use Rattle.vt.specs.Whole as whole;
 
 pub fn is_sized(rows: u8) -> bool

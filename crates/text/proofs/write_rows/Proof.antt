@@ -6,8 +6,8 @@ use native.Mathlib.Omega.{arith}
 use lib.ListN.{length}
 use borrow.Author.Needs.{needs}
 use Rattle.text.specs.Text.{line, lines, textOf}
-use Rattle.cells.specs.Writes.{Wrote}
-use Rattle.cells.proofs.Writing.{wrote-none, wrote-more}
+use Rattle.ground.specs.Writes.{Wrote}
+use Rattle.ground.proofs.WriteLaws.{wrote-none, wrote-more}
 use Rattle.text.proofs.TextLaws.{text-more, text-more-length, text-part}
 use Rattle.text.proofs.write_rows.Statement.{statement}
 use Rattle.text.proofs.write_rows.Tie as tie

@@ -5,7 +5,7 @@ use Prim.Native.Nat.{ℕ}
 use native.Mathlib.Omega.{arith}
 use lib.ListN.{length}
 use borrow.Author.Needs.{needs}
-use Rattle.text.specs.declared.Written.the-variants.{Whole}
+use Rattle.text.specs.declared.Written.the-variants.{Complete}
 use Rattle.text.specs.Text.{pageText, writeAs}
 use Rattle.text.proofs.TextLaws.{written-whole, written-none}
 use Rattle.text.proofs.write_text.Statement.{statement}
@@ -21,7 +21,7 @@ returns-2 c =
     let page = start .args .page .now in
     let out = start .args .out .now in
     let count : length (pageText page) ≡ rows .write-rows .result = omega (arith, rows .write-rows .ensures) in
-    sym (written-whole page out (omega arith) ∙ ap₂ (λ (n : ℕ) (l : List ℕ). writeAs (Whole n) l) count (sym (rows .write-rows .ensures .is)))
+    sym (written-whole page out (omega arith) ∙ ap₂ (λ (n : ℕ) (l : List ℕ). writeAs (Complete n) l) count (sym (rows .write-rows .ensures .is)))
 
 pub write-text-spec : {M : Type 1} → statement M
 write-text-spec = tie.close (tie.spec (λ c κs. search needs) returns (λ c κs. search needs) (λ c. search needs) returns-2)

@@ -4,7 +4,7 @@ use mathlib.Core.Logic.{inl, inr, ⊎-elim}
 use Prim.Native.Nat.{ℕ, _+_, _≤_}
 use native.Mathlib.Omega.{arith}
 use lib.ListN.{drop}
-use Rattle.cells.specs.Writes.{Pasted}
+use Rattle.cells.specs.Segments.{Pasted}
 use borrow.Author.Needs.{needs}
 use Rattle.cells.proofs.segments.copy_columns.Statement.{statement}
 use Rattle.cells.proofs.segments.copy_columns.Tie as tie

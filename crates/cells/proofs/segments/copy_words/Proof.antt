@@ -1,7 +1,7 @@
 -- The test tells which of the two directions reads each word before it is stored over.
 use Prim.Native.Nat.{_+_}
 use native.Mathlib.Omega.{arith}
-use Rattle.cells.proofs.Lists.{either-leb, neither-leb}
+use Rattle.ground.proofs.ListLaws.{either-leb, neither-leb}
 use borrow.Author.Needs.{needs}
 use Rattle.cells.proofs.segments.copy_words.Statement.{statement}
 use Rattle.cells.proofs.segments.copy_words.Tie as tie

@@ -4,7 +4,7 @@ use mathlib.Core.Logic.{inr}
 use native.Mathlib.Omega.{arith}
 use lib.ListN.{length-drop, length-map, getD, drop}
 use lib.Seq.{getD-drop}
-use Rattle.cells.proofs.Lists.{getD-map}
+use Rattle.ground.proofs.ListLaws.{getD-map}
 use borrow.Author.Needs.{needs}
 use mathlib.Core.List.{map}
 use Prim.Native.Nat.{_+_, _-_, _≤_}

@@ -8,7 +8,7 @@ use Rattle.compare.proofs.pokes.poke.Tie as tie
 
 returns : tie.Need-returns
 unfolding poked
-returns c = rw (eq-eqb _ _ (c .before .before .if1 .taken), c .before .row-bit .ensures, one-mul)
+returns c = rw (eq-eqb _ _ (c .before .before .if1 .taken), c .note .ensures, c .before .row-bit .ensures, one-mul)
 
 returns-2 : tie.Need-returns-2
 unfolding poked
@@ -17,4 +17,4 @@ returns-2 c = rw (ne-eqb _ _ (c .before .if1 .left), c .poke-core .ensures)
 pub poke-spec : {M : Type 1} → statement M
 poke-spec =
     tie.close
-    (tie.spec (λ c. search needs) (λ c. search needs) (λ c κs. search needs) returns (λ c. search needs) (λ c κs. search needs) returns-2)
+    (tie.spec (λ c. search needs) (λ c. search needs) (λ c κs. search needs) (λ c κs. search needs) returns (λ c. search needs) (λ c κs. search needs) returns-2)

@@ -6,10 +6,10 @@ use Rattle.csi.proofs.erasing.erase_in_line.Statement.{statement}
 use Rattle.csi.proofs.erasing.erase_in_line.Tie as tie
 
 add-erase : tie.Need-add-erase
-add-erase c = omega (arith, c .before .row-start .ensures)
+add-erase c = omega (arith, c .row-start .ensures)
 
 returns : tie.Need-returns
-returns c = c .erase .ensures ∙ rw (c .before .get .ensures, c .before .before .row-start .ensures)
+returns c = c .erase .ensures ∙ rw (c .before .row-start .ensures)
 
 pub erase-in-line-spec : {M : Type 1} → statement M
-erase-in-line-spec = tie.close (tie.spec (λ c κs. search needs) (λ c κs. search needs) add-erase (λ c κs. search needs) returns)
+erase-in-line-spec = tie.close (tie.spec (λ c κs. search needs) add-erase (λ c κs. search needs) returns)

@@ -6,10 +6,10 @@ use Rattle.csi.proofs.erasing.selective_erase_in_line.Statement.{statem
 use Rattle.csi.proofs.erasing.selective_erase_in_line.Tie as tie
 
 add-erase-selectively : tie.Need-add-erase-selectively
-add-erase-selectively c = omega (arith, c .before .row-start .ensures)
+add-erase-selectively c = omega (arith, c .row-start .ensures)
 
 returns : tie.Need-returns
-returns c = c .erase-selectively .ensures ∙ rw (c .before .get .ensures, c .before .before .row-start .ensures)
+returns c = c .erase-selectively .ensures ∙ rw (c .before .row-start .ensures)
 
 pub selective-erase-in-line-spec : {M : Type 1} → statement M
-selective-erase-in-line-spec = tie.close (tie.spec (λ c κs. search needs) (λ c κs. search needs) add-erase-selectively (λ c κs. search needs) returns)
+selective-erase-in-line-spec = tie.close (tie.spec (λ c κs. search needs) add-erase-selectively (λ c κs. search needs) returns)

@@ -1,5 +1,6 @@
 -- The edit is the definition's, and the cursor goes to column 1.
 use mathlib.Core.Path.{_∙_}
+use native.Mathlib.Omega.{arith}
 use borrow.Author.Needs.{needs}
 use Rattle.csi.proofs.inserting.delete_lines.Statement.{statement}
 use Rattle.csi.proofs.inserting.delete_lines.Tie as tie
@@ -7,10 +8,10 @@ use Rattle.csi.proofs.inserting.delete_lines.Tie as tie
 returns : tie.Need-returns
 returns c =
     let below = c .before .before .before in
-    c .only .ensures ∙ rw (c .before .to-column .ensures, c .before .before .at-most .ensures, below .rows-below .ensures, below .before .n .ensures)
+    c .one-edit .ensures ∙ rw (c .before .to-column .ensures, c .before .before .capped .ensures, below .rows-below .ensures, below .before .before .before .stops-of .ensures)
 
 pub delete-lines-spec : {M : Type 1} → statement M
 delete-lines-spec =
     tie.close
-    (tie.spec (λ c. search needs) (λ c κs. search needs) (λ c κs. search needs) (λ c κs. search needs) (λ c κs. search needs) (λ c κs. search needs)
+    (tie.spec (λ c κs. search needs) (λ c. search needs) (λ c. rw (c .before .before .stops-of .ensures) (omega arith)) (λ c κs. search needs) (λ c κs. search needs) (λ c κs. search needs) (λ c κs. search needs)
     returns)

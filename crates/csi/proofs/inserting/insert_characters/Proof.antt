@@ -7,7 +7,7 @@ use Rattle.csi.proofs.inserting.insert_characters.Tie as tie
 returns : tie.Need-returns
 returns c =
     let right = c .before .before in
-    c .only .ensures ∙ rw (c .before .at-most .ensures, right .cells-right .ensures, right .before .n .ensures)
+    c .one-edit .ensures ∙ rw (c .before .capped .ensures, right .cells-right .ensures, right .before .right-stop .ensures)
 
 pub insert-characters-spec : {M : Type 1} → statement M
 insert-characters-spec =

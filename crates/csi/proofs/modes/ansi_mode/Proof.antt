@@ -1,7 +1,7 @@
 -- Each way is the definition's, by the value.
 use borrow.Author.Tests.{eq-eqb, ne-eqb}
 use mathlib.Core.Path.{refl}
-use Rattle.parser.proofs.Choice.{take-yes, take-no}
+use Rattle.ground.proofs.Choice.{take-yes, take-no}
 use Rattle.csi.proofs.modes.ansi_mode.Statement.{statement}
 use Rattle.csi.proofs.modes.ansi_mode.Tie as tie
 

@@ -2,7 +2,7 @@
 use borrow.Author.Tests.{eq-eqb, ne-eqb}
 use mathlib.Core.Path.{refl}
 use borrow.Author.Needs.{needs}
-use Rattle.parser.proofs.Choice.{take-yes, take-no}
+use Rattle.ground.proofs.Choice.{take-yes, take-no}
 use Rattle.csi.proofs.modes.dec_mode.Statement.{statement}
 use Rattle.csi.proofs.modes.dec_mode.Tie as tie
 

@@ -3,7 +3,7 @@ use borrow.Author.Tests.{ne-eqb}
 use mathlib.Core.Path.{refl, sym, ap, _∙_}
 use borrow.Author.Needs.{needs}
 use Rattle.csi.specs.Sequences.{rendered}
-use Rattle.parser.proofs.Choice.{take-no}
+use Rattle.ground.proofs.Choice.{take-no}
 use Rattle.csi.proofs.modes.render.Statement.{statement}
 use Rattle.csi.proofs.modes.render.Tie as tie
 

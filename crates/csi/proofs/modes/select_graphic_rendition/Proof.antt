@@ -6,7 +6,7 @@ use lib.ListN.{length, drop}
 use Rattle.cells.specs.declared.Rendition.{Rendition}
 use Rattle.parser.specs.Params.{paramList}
 use Rattle.csi.specs.Sequences.{folded, rendered}
-use Rattle.vt.specs.Effects.{quiet, withRendition}
+use Rattle.vt.specs.Effects.{unedited, withRendition}
 use Rattle.parser.proofs.ParamLaws.{list-more, list-end}
 use Rattle.csi.proofs.modes.select_graphic_rendition.Statement.{statement}
 use Rattle.csi.proofs.modes.select_graphic_rendition.Tie as tie
@@ -32,8 +32,8 @@ returns : tie.Need-returns Inv-loop μ-loop
 returns c =
     let g = c .before .before .before .before .before .good .1 .0 in
     let e : length (c .before .before .before .before .before .args .params .values) ≡ 16 = search needs in
-    c .quiet .ensures
-    ∙ ap (λ (x : Rendition). quiet (withRendition (c .before .before .before .before .before .args .core) x))
+    c .unedited .ensures
+    ∙ ap (λ (x : Rendition). unedited (withRendition (c .before .before .before .before .before .args .core) x))
     (sym (ap (folded rendered (c .before .before .loop .rendition)) (list-end _ _ e (rw (c .before .before .before .count .ensures) at (c .before .loop-test .left)))) ∙ c .before .before .loop .inv)
 
 pub select-graphic-rendition-spec : {M : Type 1} → statement M

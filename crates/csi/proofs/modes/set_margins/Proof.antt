@@ -13,19 +13,19 @@ cast-top c =
     let bottom = c .before in
     let get = bottom .before in
     let above : ltb (c .n .result) (bottom .asked-bottom .result) ≡ true =
-    rw (c .n .ensures, bottom .asked-bottom .ensures, get .get .ensures) (get .before .before .pre) in
+    rw (c .n .ensures, bottom .asked-bottom .ensures, get .get .ensures) (get .before .pre) in
     let low : c .n .result < bottom .asked-bottom .result = ltb-true _ _ above in
     search needs
 
 returns : tie.Need-returns
 returns c =
     let home = c .before in
-    let n = home .before .before in
+    let n = home .before in
     let bottom = n .before in
-    c .quiet .ensures ∙ rw (home .home .ensures, home .before .pick .ensures, n .n .ensures, bottom .asked-bottom .ensures, bottom .before .get .ensures)
+    c .unedited .ensures ∙ rw (home .home .ensures, n .n .ensures, bottom .asked-bottom .ensures, bottom .before .get .ensures)
 
 pub set-margins-spec : {M : Type 1} → statement M
 set-margins-spec =
     tie.close
     (tie.spec (λ c κs. search needs) (λ c κs. search needs) (λ c κs. search needs) cast-top
-    (λ c κs. search needs) (λ c κs. search needs) (λ c κs. search needs) returns)
+    (λ c κs. search needs) (λ c κs. search needs) returns)

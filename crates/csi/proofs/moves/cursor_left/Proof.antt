@@ -4,7 +4,7 @@ use Rattle.csi.proofs.moves.cursor_left.Statement.{statement}
 use Rattle.csi.proofs.moves.cursor_left.Tie as tie
 
 returns : tie.Need-returns
-returns c = rw (c .quiet .ensures, c .before .left .ensures, c .before .before .n .ensures)
+returns c = rw (c .unedited .ensures, c .before .left .ensures, c .before .before .left-stop .ensures)
 
 pub cursor-left-spec : {M : Type 1} → statement M
 cursor-left-spec = tie.close (tie.spec (λ c κs. search needs) (λ c κs. search needs) (λ c κs. search needs) returns)

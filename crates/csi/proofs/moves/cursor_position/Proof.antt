@@ -5,10 +5,14 @@ use Rattle.csi.proofs.moves.cursor_position.Statement.{statement}
 use Rattle.csi.proofs.moves.cursor_position.Tie as tie
 
 row-at-requires : tie.Need-row-at-requires
-row-at-requires c κs = omega (arith, c .n .ensures)
+row-at-requires c κs = omega (arith, c .or-one .ensures)
 
 returns : tie.Need-returns
-returns c = rw (c .quiet .ensures, c .before .home .ensures, c .before .before .at-most .ensures, c .before .before .before .or-one .ensures, c .before .before .before .before .get .ensures, c .before .before .before .before .before .row-at .ensures, c .before .before .before .before .before .before .n .ensures)
+returns c =
+    let home = c .before in
+    let stop = home .before .before in
+    let row = stop .before .before in
+    rw (c .unedited .ensures, home .home .ensures, home .before .capped .ensures, stop .right-stop .ensures, stop .before .or-one2 .ensures, row .row-at .ensures, row .before .or-one .ensures)
 
 pub cursor-position-spec : {M : Type 1} → statement M
 cursor-position-spec =

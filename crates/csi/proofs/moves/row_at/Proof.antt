@@ -1,16 +1,12 @@
--- Each way is the definition's, by the origin mode.
+-- The row goes on from the first by one less, and is held to the last.
 use mathlib.Core.Path.{_∙_}
 use native.Mathlib.Omega.{arith}
 use borrow.Author.Needs.{needs}
-use Rattle.parser.proofs.Choice.{take-yes, take-no}
 use Rattle.csi.proofs.moves.row_at.Statement.{statement}
 use Rattle.csi.proofs.moves.row_at.Tie as tie
 
 returns : tie.Need-returns
-returns c = take-yes _ _ (c .before .if1 .taken) (c .on .ensures ∙ omega arith)
-
-returns-2 : tie.Need-returns-2
-returns-2 c = take-no _ _ (c .before .if1 .left) (c .at-most .ensures)
+returns c = c .on .ensures ∙ rw (c .before .last-row .ensures, c .before .before .first-row .ensures) (omega arith)
 
 pub row-at-spec : {M : Type 1} → statement M
-row-at-spec = tie.close (tie.spec (λ c. search needs) (λ c κs. search needs) returns (λ c κs. search needs) returns-2)
+row-at-spec = tie.close (tie.spec (λ c κs. search needs) (λ c. search needs) (λ c κs. search needs) (λ c κs. search needs) returns)

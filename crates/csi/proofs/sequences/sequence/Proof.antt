@@ -2,7 +2,7 @@
 use mathlib.Core.Path.{sym, _∙_}
 use borrow.Author.Needs.{needs}
 use Rattle.csi.specs.Sequences.{sequenced}
-use Rattle.parser.proofs.Choice.{take-yes, take-no}
+use Rattle.ground.proofs.Choice.{take-yes, take-no}
 use Rattle.csi.proofs.sequences.sequence.Statement.{statement}
 use Rattle.csi.proofs.sequences.sequence.Tie as tie
 
@@ -19,14 +19,14 @@ returns-2 : tie.Need-returns-2
 unfolding sequenced
 returns-2 c =
     take-no _ _ (sym (c .before .before .before .before .is-plain .ensures) ∙ c .before .before .before .if1 .left)
-    (take-yes _ _ (sym (c .before .before .is-marked .ensures) ∙ c .before .if2 .taken)
-    (c .marked-sequence .ensures))
+    (take-yes _ _ (sym (c .before .before .is-private .ensures) ∙ c .before .if2 .taken)
+    (c .private-sequence .ensures))
 
 returns-3 : tie.Need-returns-3
 unfolding sequenced
 returns-3 c =
     take-no _ _ (sym (c .before .before .before .before .before .before .is-plain .ensures) ∙ c .before .before .before .before .before .if1 .left)
-    (take-no _ _ (sym (c .before .before .before .before .is-marked .ensures) ∙ c .before .before .before .if2 .left)
+    (take-no _ _ (sym (c .before .before .before .before .is-private .ensures) ∙ c .before .before .before .if2 .left)
     (take-yes _ _ (sym (c .before .before .is-protection .ensures) ∙ c .before .if3 .taken)
     (c .select-protection .ensures)))
 
@@ -34,19 +34,19 @@ returns-4 : tie.Need-returns-4
 unfolding sequenced
 returns-4 c =
     take-no _ _ (sym (c .before .before .before .before .before .before .before .before .before .is-plain .ensures) ∙ c .before .before .before .before .before .before .before .before .if1 .left)
-    (take-no _ _ (sym (c .before .before .before .before .before .before .before .is-marked .ensures) ∙ c .before .before .before .before .before .before .if2 .left)
+    (take-no _ _ (sym (c .before .before .before .before .before .before .before .is-private .ensures) ∙ c .before .before .before .before .before .before .if2 .left)
     (take-no _ _ (sym (c .before .before .before .before .before .is-protection .ensures) ∙ c .before .before .before .before .if3 .left)
     (take-yes _ _ (sym (c .before .before .before .is-soft-reset .ensures) ∙ c .before .before .if4 .taken)
-    (c .quiet .ensures ∙ rw (c .before .soft-reset .ensures)))))
+    (c .unedited .ensures ∙ rw (c .before .soft-reset .ensures)))))
 
 returns-5 : tie.Need-returns-5
 unfolding sequenced
 returns-5 c =
     take-no _ _ (sym (c .before .before .before .before .before .before .before .before .is-plain .ensures) ∙ c .before .before .before .before .before .before .before .if1 .left)
-    (take-no _ _ (sym (c .before .before .before .before .before .before .is-marked .ensures) ∙ c .before .before .before .before .before .if2 .left)
+    (take-no _ _ (sym (c .before .before .before .before .before .before .is-private .ensures) ∙ c .before .before .before .before .before .if2 .left)
     (take-no _ _ (sym (c .before .before .before .before .is-protection .ensures) ∙ c .before .before .before .if3 .left)
     (take-no _ _ (sym (c .before .before .is-soft-reset .ensures) ∙ c .before .if4 .left)
-    (c .quiet2 .ensures))))
+    (c .unedited2 .ensures))))
 
 pub sequence-spec : {M : Type 1} → statement M
 sequence-spec =

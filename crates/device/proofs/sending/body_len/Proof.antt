@@ -9,7 +9,7 @@ returns-5 : tie.Need-returns-5
 returns-5 c =
     let g = c .before .before .before .reply .given in
     record {
-      is = rw (g .1, c .before .digits .ensures .is, c .digits2 .ensures .is) (sym (position-length (g .0 .0) (g .0 .1 .0)));
+      is = rw (g .1, c .before .decimal-len .ensures .is, c .decimal-len2 .ensures .is) (sym (position-length (g .0 .0) (g .0 .1 .0)));
       few = search needs;
     }
 
@@ -17,7 +17,7 @@ returns-6 : tie.Need-returns-6
 returns-6 c =
     let g = c .before .before .before .reply2 .given in
     record {
-      is = rw (g .1, c .before .digits3 .ensures .is, c .digits4 .ensures .is) (sym (extended-length (g .0 .0) (g .0 .1 .0)));
+      is = rw (g .1, c .before .decimal-len3 .ensures .is, c .decimal-len4 .ensures .is) (sym (extended-length (g .0 .0) (g .0 .1 .0)));
       few = search needs;
     }
 

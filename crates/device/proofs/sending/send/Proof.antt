@@ -3,7 +3,7 @@ use native.Mathlib.Omega.{arith}
 use borrow.Author.Needs.{needs}
 use lib.ListN.{length-append}
 use Rattle.device.specs.ReplyBytes.{replyBytes}
-use Rattle.cells.proofs.Writing.{wrote-none, wrote-more}
+use Rattle.ground.proofs.WriteLaws.{wrote-none, wrote-more}
 use Rattle.device.proofs.SendLaws.{reply-is}
 use Rattle.device.proofs.sending.send.Statement.{statement}
 use Rattle.device.proofs.sending.send.Tie as tie

@@ -13,7 +13,7 @@ sequence-requires c κs =
     (start .pre .0, heard-taken (start .args .core) (start .args .action) _ _ _ _ (start .pre .1) (c .before .before .action5 .given .1))
 
 returns : tie.Need-returns
-returns c = c .quiet .ensures ∙ ap (effect (c .before .before .before .args .core)) (sym (c .before .enum-told .given .1))
+returns c = c .unedited .ensures ∙ ap (effect (c .before .before .before .args .core)) (sym (c .before .enum-told .given .1))
 
 returns-2 : tie.Need-returns-2
 returns-2 c = c .print .ensures ∙ ap (effect (c .before .before .before .before .args .core)) (sym (c .before .before .action .given .1))

@@ -3,7 +3,7 @@ use mathlib.Core.Path.{_≡_, ap, ap₂, _∙_}
 use mathlib.Core.Bool.{false}
 use borrow.Author.Needs.{needs}
 use Rattle.dispatch.specs.Heard.{isIgnored}
-use Rattle.dispatch.specs.WrapDue.{settled}
+use Rattle.dispatch.specs.WrapDue.{withWrapPolicy}
 use Rattle.dispatch.specs.Decide.{executed}
 use Rattle.dispatch.proofs.HeardLaws.{heard-effect, unignored, executed-unignored}
 use Rattle.dispatch.proofs.decide.execute.Statement.{statement}
@@ -26,8 +26,8 @@ unfolding executed
 returns c =
     let asked = c .before .before .before in
     let args = asked .before .args in
-    c .settle .ensures
-    ∙ ap₂ settled (c .before .before .clears-wrap .ensures)
+    c .apply-wrap-policy .ensures
+    ∙ ap₂ withWrapPolicy (c .before .before .clears-wrap .ensures)
     (c .before .effect .ensures ∙ heard-effect (args .core) (asked .unless-ignored .result) (left asked))
     ∙ ap (executed (args .core)) (asked .unless-ignored .ensures)
     ∙ executed-unignored (args .core) (args .action)

@@ -7,7 +7,7 @@ returns : tie.Need-returns
 returns c = rw (← c .before .before .is-plain .ensures, c .before .if1 .taken) (c .plain-ignored .ensures)
 
 returns-2 : tie.Need-returns-2
-returns-2 c = rw (← c .before .before .before .is-plain .ensures, c .before .before .if1 .left, c .before .is-marked .ensures, c .marked-ignored .ensures)
+returns-2 c = rw (← c .before .before .before .is-plain .ensures, c .before .before .if1 .left, c .before .is-private .ensures, c .private-ignored .ensures)
 
 pub ignored-sequence-spec : {M : Type 1} → statement M
 ignored-sequence-spec =

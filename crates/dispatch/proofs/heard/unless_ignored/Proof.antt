@@ -1,7 +1,7 @@
 -- Each way is the definition's, by the test.
 use mathlib.Core.Path.{refl, sym, _∙_}
 use borrow.Author.Needs.{needs}
-use Rattle.parser.proofs.Choice.{take-yes, take-no}
+use Rattle.ground.proofs.Choice.{take-yes, take-no}
 use Rattle.dispatch.proofs.heard.unless_ignored.Statement.{statement}
 use Rattle.dispatch.proofs.heard.unless_ignored.Tie as tie
 

@@ -9,14 +9,14 @@ returns c = rw (← c .before .before .is-plain .ensures, c .before .if1 .taken)
 returns-2 : tie.Need-returns-2
 returns-2 c =
     let marked = c .before .before in
-    rw (← marked .before .before .is-plain .ensures, marked .before .if1 .left, ← marked .is-marked .ensures, c .before .if2 .taken) (c .marked-reply .ensures)
+    rw (← marked .before .before .is-plain .ensures, marked .before .if1 .left, ← marked .is-private .ensures, c .before .if2 .taken) (c .private-reply .ensures)
 
 returns-3 : tie.Need-returns-3
 returns-3 c =
     let secondary = c .before .before in
     let marked = secondary .before .before in
     let plain = marked .before .before in
-    rw (← plain .is-plain .ensures, marked .before .if1 .left, ← marked .is-marked .ensures, secondary .before .if2 .left)
+    rw (← plain .is-plain .ensures, marked .before .if1 .left, ← marked .is-private .ensures, secondary .before .if2 .left)
     (rw (← secondary .is-secondary .ensures, ← c .before .get .ensures, c .if3 .taken))
 
 returns-4 : tie.Need-returns-4
@@ -24,7 +24,7 @@ returns-4 c =
     let secondary = c .before .before in
     let marked = secondary .before .before in
     let plain = marked .before .before in
-    rw (← plain .is-plain .ensures, marked .before .if1 .left, ← marked .is-marked .ensures, secondary .before .if2 .left)
+    rw (← plain .is-plain .ensures, marked .before .if1 .left, ← marked .is-private .ensures, secondary .before .if2 .left)
     (rw (← secondary .is-secondary .ensures, ← c .before .get .ensures, c .if3 .left))
 
 pub sequence-reply-spec : {M : Type 1} → statement M

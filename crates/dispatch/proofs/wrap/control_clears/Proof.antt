@@ -1,21 +1,16 @@
--- At each byte the range is the definition's, by a computed comparison.
-use mathlib.Core.Path.{refl, _∙_}
-use mathlib.Core.Bool.{not, _&&_}
-use borrow.Author.Needs.{needs}
-use Prim.Native.Nat.{ℕ}
-use Rattle.parser.specs.Params.{member}
-use Rattle.parser.specs.Parser.{between}
-use Rattle.dispatch.specs.Heard.{controls}
-use Rattle.dispatch.specs.WrapDue.{keepingControls}
-use Rattle.dispatch.proofs.WrapLaws.{alike-at}
+-- At each control the answer is the definition's: the listed ones compute, the others are not listed.
+use borrow.Author.Tests.{ne-eqb}
 use Rattle.dispatch.proofs.wrap.control_clears.Statement.{statement}
 use Rattle.dispatch.proofs.wrap.control_clears.Tie as tie
 
-returns : tie.Need-returns
-returns c =
-    c .between .ensures
-    ∙ alike-at (λ (b : ℕ). between 0x08 b 0x0D) (λ (b : ℕ). member b controls && not (member b keepingControls))
-    256 refl (c .before .args .byte) (search needs)
+returns-9 : tie.Need-returns-9
+returns-9 c =
+    let b = c .before .args .byte in
+    let r = c .match .rest in
+    rw (ne-eqb b 0x08 (r .0 .0 .0 .0 .0 .0 .0 .1), ne-eqb b 0x09 (r .0 .0 .0 .0 .0 .0 .1), ne-eqb b 0x0A (r .0 .0 .0 .0 .0 .1), ne-eqb b 0x0B (r .0 .0 .0 .0 .1))
+    (rw (ne-eqb b 0x0C (r .0 .0 .0 .1), ne-eqb b 0x0D (r .0 .0 .1), ne-eqb b 0x0E (r .0 .1), ne-eqb b 0x0F (r .1)))
 
 pub control-clears-spec : {M : Type 1} → statement M
-control-clears-spec = tie.close (tie.spec (λ c κs. search needs) returns)
+control-clears-spec =
+    tie.close
+    (tie.spec (λ c. simp (c .match .keys1)) (λ c. simp (c .match .keys2)) (λ c. simp (c .match .keys3)) (λ c. simp (c .match .keys4)) (λ c. simp (c .match .keys5)) (λ c. simp (c .match .keys6)) (λ c. simp (c .match .keys7)) (λ c. simp (c .match .keys8)) returns-9)

@@ -11,15 +11,15 @@ returns c = rw (← c .before .before .is-plain .ensures, c .before .if1 .taken)
 returns-2 : tie.Need-returns-2
 returns-2 c =
     let marked = c .before .before in
-    rw (← marked .before .before .is-plain .ensures, marked .before .if1 .left, ← marked .is-marked .ensures, c .before .if2 .taken)
-    (c .marked-clears .ensures)
+    rw (← marked .before .before .is-plain .ensures, marked .before .if1 .left, ← marked .is-private .ensures, c .before .if2 .taken)
+    (c .private-clears .ensures)
 
 returns-3 : tie.Need-returns-3
 returns-3 c =
     let marked = c .before .before in
     let plain = marked .before .before in
     let start = plain .before .args in
-    rw (← plain .is-plain .ensures, marked .before .if1 .left, ← marked .is-marked .ensures, c .before .if2 .left)
+    rw (← plain .is-plain .ensures, marked .before .if1 .left, ← marked .is-private .ensures, c .before .if2 .left)
     (c .is-soft-reset .ensures ∙ others-clear (start .mark) (start .first) (start .second) (start .last))
 
 pub sequence-clears-spec : {M : Type 1} → statement M

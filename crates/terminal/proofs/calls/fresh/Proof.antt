@@ -6,7 +6,7 @@ use Rattle.terminal.proofs.calls.fresh.Statement.{statement}
 use Rattle.terminal.proofs.calls.fresh.Tie as tie
 
 returns : tie.Need-returns
-returns c = ap (λ (x : Core). record { core = x; changed = 0 }) (c .fresh-core .ensures)
+returns c = ap (λ (x : Core). record { core = x; tracked = record { changed = 0 } }) (c .fresh-core .ensures)
 
 pub fresh-spec : {M : Type 1} → statement M
 fresh-spec = tie.close (tie.spec (λ c κs. search needs) returns)

@@ -6,7 +6,7 @@ use lib.ListN.{replicate}
 use borrow.Author.Tests.{eq-eqb, ne-eqb, not-true, not-false}
 use Rattle.cells.specs.Cells.{blank}
 use Rattle.vt.specs.Whole.{sized}
-use Rattle.sound.proofs.Wholeness.{row-count}
+use Rattle.wholeness.proofs.Wholeness.{sized-rows}
 use Rattle.terminal.specs.declared.Answer.the-variants.{Done}
 use Rattle.terminal.specs.Start.{fresh, startAs, started}
 use borrow.Author.Needs.{needs}
@@ -19,7 +19,7 @@ returns c = rw (not-true (sized (c .before .before .before .args .rows)) (c .bef
 
 mul-if2 : tie.Need-mul-if2
 mul-if2 c =
-    let few = row-count (c .before .before .args .rows) (not-false (sized (c .before .before .args .rows)) (c .if1 .left)) in
+    let few = sized-rows (c .before .before .args .rows) (not-false (sized (c .before .before .args .rows)) (c .if1 .left)) in
     record { fits = omega (arith, few .high) }
 
 returns-2 : tie.Need-returns-2
@@ -31,7 +31,7 @@ cast-fresh : tie.Need-cast-fresh
 cast-fresh c =
     let e2 = c .before .before .before .before in
     let rows = e2 .before .before .before .args .rows in
-    let few = row-count rows (not-false (sized rows) (e2 .before .if1 .left)) in
+    let few = sized-rows rows (not-false (sized rows) (e2 .before .if1 .left)) in
     omega (arith, few .high)
 
 returns-3 : tie.Need-returns-3

@@ -4,8 +4,8 @@ use native.Mathlib.Nat.{one-mul}
 use native.Mathlib.Omega.{arith}
 use lib.Dec.{lit<}
 use lib.Pow.{shl-exact}
-use Rattle.sound.proofs.Wholeness.{facts}
-use Rattle.terminal.specs.Whole.{wholeState}
+use Rattle.wholeness.proofs.Wholeness.{facts}
+use Rattle.steps.specs.Whole.{wholeState}
 use borrow.Author.Needs.{needs}
 use Rattle.terminal.proofs.whole.is_whole.Statement.{statement}
 use Rattle.terminal.proofs.whole.is_whole.Tie as tie
@@ -13,7 +13,7 @@ use Rattle.terminal.proofs.whole.is_whole.Tie as tie
 shl-result : tie.Need-shl-result
 shl-result c =
     let w = facts (c .before .before .before .args .state .core) (sym (c .before .is-whole .ensures) ∙ c .if1 .taken) in
-    omega (arith, w .rows-high)
+    omega (arith, w .parts .bounds .count .high)
 
 returns : tie.Need-returns
 unfolding wholeState
@@ -21,7 +21,7 @@ returns c =
     let s = c .before .before .before .before .args .state in
     let e = sym (c .before .before .is-whole .ensures) ∙ c .before .if1 .taken in
     let w = facts (s .core) e in
-    rw (e, shl-exact 1 (s .core .rows) 64 (lit< tt) (omega (arith, w .rows-high)), one-mul)
+    rw (e, shl-exact 1 (s .core .rows) 64 (lit< tt) (omega (arith, w .parts .bounds .count .high)), one-mul)
 
 returns-2 : tie.Need-returns-2
 unfolding wholeState

@@ -6,8 +6,8 @@ use native.Mathlib.Omega.{arith}
 use lib.ListN.{length}
 use borrow.Author.Needs.{needs}
 use Rattle.text.specs.Text.{sign, trimmed, encoded}
-use Rattle.cells.specs.Writes.{Wrote}
-use Rattle.cells.proofs.Writing.{wrote-more}
+use Rattle.ground.specs.Writes.{Wrote}
+use Rattle.ground.proofs.WriteLaws.{wrote-more}
 use Rattle.text.proofs.Trimming.{left-count, left-signs}
 use Rattle.text.proofs.TextLaws.{line-length}
 use Rattle.text.proofs.lines.write_line.Statement.{statement}

@@ -7,8 +7,8 @@ use lib.ListN.{length, take}
 use lib.Seq.{take-all}
 use borrow.Author.Needs.{needs}
 use Rattle.text.specs.Text.{sign, utf8, encoded}
-use Rattle.cells.specs.Writes.{Wrote}
-use Rattle.cells.proofs.Writing.{wrote-none, wrote-more}
+use Rattle.ground.specs.Writes.{Wrote}
+use Rattle.ground.proofs.WriteLaws.{wrote-none, wrote-more}
 use Rattle.text.proofs.Encoding.{encoded-more, encoded-more-length, encoded-part}
 use Rattle.text.proofs.lines.write_signs.Statement.{statement}
 use Rattle.text.proofs.lines.write_signs.Tie as tie

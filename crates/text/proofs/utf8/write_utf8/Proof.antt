@@ -3,7 +3,7 @@ use mathlib.Core.Path.{ap}
 use native.Mathlib.Omega.{arith}
 use lib.ListN.{length}
 use borrow.Author.Needs.{needs}
-use Rattle.cells.proofs.Writing.{wrote-more}
+use Rattle.ground.proofs.WriteLaws.{wrote-more}
 use Rattle.text.proofs.Encoding.{one-byte, two-bytes, three-bytes}
 use Rattle.text.proofs.utf8.write_utf8.Statement.{statement}
 use Rattle.text.proofs.utf8.write_utf8.Tie as tie

@@ -3,7 +3,7 @@ use borrow.Author.Tests.{ne-eqb}
 use mathlib.Core.Path.{sym, ap, _∙_}
 use borrow.Author.Needs.{needs}
 use Rattle.vt.specs.Controls.{c1Controlled}
-use Rattle.parser.proofs.Choice.{take-no}
+use Rattle.ground.proofs.Choice.{take-no}
 use Rattle.vt.proofs.controls.c1_control.Statement.{statement}
 use Rattle.vt.proofs.controls.c1_control.Tie as tie
 
@@ -41,7 +41,7 @@ returns-7 c =
     (take-no _ _ (ne-eqb _ 0x8D (m .0 .0 .1))
     (take-no _ _ (ne-eqb _ 0x8E (m .0 .1))
     (take-no _ _ (ne-eqb _ 0x8F (m .1))
-    (c .quiet .ensures))))))
+    (c .unedited .ensures))))))
 
 pub c1-control-spec : {M : Type 1} → statement M
 c1-control-spec =

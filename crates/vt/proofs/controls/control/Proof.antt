@@ -3,7 +3,7 @@ use borrow.Author.Tests.{ne-eqb}
 use mathlib.Core.Path.{sym, ap, _∙_}
 use borrow.Author.Needs.{needs}
 use Rattle.vt.specs.Controls.{controlled}
-use Rattle.parser.proofs.Choice.{take-no}
+use Rattle.ground.proofs.Choice.{take-no}
 use Rattle.vt.proofs.controls.control.Statement.{statement}
 use Rattle.vt.proofs.controls.control.Tie as tie
 
@@ -51,7 +51,7 @@ returns-9 c =
     (take-no _ _ (ne-eqb _ 0x0D (m .0 .0 .1))
     (take-no _ _ (ne-eqb _ 0x0E (m .0 .1))
     (take-no _ _ (ne-eqb _ 0x0F (m .1))
-    (c .quiet .ensures))))))))
+    (c .unedited .ensures))))))))
 
 pub control-spec : {M : Type 1} → statement M
 control-spec =

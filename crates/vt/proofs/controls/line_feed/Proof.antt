@@ -1,6 +1,6 @@
 -- Each way is the definition's, by the mode.
 use borrow.Author.Needs.{needs}
-use Rattle.parser.proofs.Choice.{take-yes, take-no}
+use Rattle.ground.proofs.Choice.{take-yes, take-no}
 use Rattle.vt.proofs.controls.line_feed.Statement.{statement}
 use Rattle.vt.proofs.controls.line_feed.Tie as tie
 

@@ -9,7 +9,7 @@ index-from-requires : tie.Need-index-from-requires
 index-from-requires c κs = rw (c .to-column .ensures) (omega arith)
 
 returns : tie.Need-returns
-returns c = c .index-from .ensures ∙ rw (c .before .to-column .ensures)
+returns c = c .index-from .ensures ∙ rw (c .before .to-column .ensures, c .before .before .left-stop .ensures)
 
 pub next-line-spec : {M : Type 1} → statement M
-next-line-spec = tie.close (tie.spec (λ c κs. search needs) index-from-requires returns)
+next-line-spec = tie.close (tie.spec (λ c κs. search needs) (λ c κs. search needs) index-from-requires returns)

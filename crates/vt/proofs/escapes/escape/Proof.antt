@@ -4,7 +4,7 @@ use mathlib.Core.Path.{sym, ap, _∙_}
 use borrow.Author.Needs.{needs}
 use Prim.Native.Nat.{ℕ}
 use Rattle.vt.specs.Escapes.{escaped}
-use Rattle.parser.proofs.Choice.{take-no}
+use Rattle.ground.proofs.Choice.{take-no}
 use Rattle.vt.proofs.escapes.escape.Statement.{statement}
 use Rattle.vt.proofs.escapes.escape.Tie as tie
 
@@ -62,7 +62,7 @@ returns-11 c =
     (take-no _ _ (ne-eqb _ 0x2D (m .0 .0 .1))
     (take-no _ _ (ne-eqb _ 0x2E (m .0 .1))
     (take-no _ _ (ne-eqb _ 0x2F (m .1))
-    (c .quiet .ensures))))))))))
+    (c .unedited .ensures))))))))))
 
 pub escape-spec : {M : Type 1} → statement M
 escape-spec =

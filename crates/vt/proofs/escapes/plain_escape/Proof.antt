@@ -3,7 +3,7 @@ use borrow.Author.Tests.{ne-eqb}
 use mathlib.Core.Path.{sym, ap, _∙_}
 use borrow.Author.Needs.{needs}
 use Rattle.vt.specs.Escapes.{plainEscape}
-use Rattle.parser.proofs.Choice.{take-no}
+use Rattle.ground.proofs.Choice.{take-no}
 use Rattle.vt.proofs.escapes.plain_escape.Statement.{statement}
 use Rattle.vt.proofs.escapes.plain_escape.Tie as tie
 
@@ -42,7 +42,7 @@ returns-9 c =
     (take-no _ _ (ne-eqb _ 0x7E (m .0 .0 .1))
     (take-no _ _ (ne-eqb _ 0x7D (m .0 .1))
     (take-no _ _ (ne-eqb _ 0x7C (m .1))
-    (c .quiet .ensures))))))))
+    (c .unedited .ensures))))))))
 
 pub plain-escape-spec : {M : Type 1} → statement M
 plain-escape-spec =

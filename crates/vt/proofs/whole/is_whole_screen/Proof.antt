@@ -2,10 +2,10 @@
 use borrow.Author.Needs.{needs}
 use mathlib.Core.Bool.{_&&_}
 use lib.Dec.{eqb, leb, ltb}
-use Rattle.parser.specs.Parser.{between}
+use Rattle.ground.specs.Tests.{between}
 use Rattle.vt.specs.Whole.{sized}
-use Rattle.parser.specs.WholeParser.{implies}
-use Rattle.parser.proofs.Tests.{nine}
+use Rattle.ground.specs.Tests.{implies}
+use Rattle.ground.proofs.TestLaws.{nine}
 use Rattle.vt.proofs.whole.is_whole_screen.Statement.{statement}
 use Rattle.vt.proofs.whole.is_whole_screen.Tie as tie
 

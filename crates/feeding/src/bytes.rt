@@ -1,0 +1,102 @@
+// Bytes, one after the other.
+use device::sending::reply_len;
+use device::sending::send;
+use dispatch::reply::reply_to;
+use parser::idle::idle_run;
+use parser::parser::Action;
+use steps::State;
+use steps::Tracked;
+use steps::byte::step;
+use steps::characters::print_characters;
+use vt::core::Core;
+ghost use mathlib.Core.Path.{_≡_};
+ghost use Prim.Native.Nat.{_≤_};
+ghost use lib.ListN.{length};
+ghost use Rattle.parser.specs.Parser.{decode};
+ghost use Rattle.vt.specs.Whole.{Whole};
+ghost use Rattle.steps.specs.Ready.{Ready};
+ghost use Rattle.feeding.specs.Bytes.{ReplySent, bytesFed};
+
+// How many bytes are in the reply buffer, and whether a byte's reply does not fit.
+pub struct Sent {
+    pub replied: usize,
+    pub full: bool,
+}
+
+// How many bytes of the input were read, how many were written to the reply buffer, and whether
+// reading stopped before a reply that does not fit.
+pub struct FedBytes {
+    pub state: State,
+    pub read: usize,
+    pub replied: usize,
+    pub full: bool,
+}
+
+// The byte's reply is sent, or it does not fit. `byte` is there for the promise alone.
+fn send_reply(core: Core, byte: u8, action: Action, reply: &mut [u8], replied: usize) -> Sent
+    requires { ⌜ Whole core × (action ≡ decode (core .parser) byte .action) × (replied ≤ length (now reply)) ⌝ }
+    ensures { λ r. ⌜ ReplySent core byte (now (reply .entry)) replied r (now (reply .exit)) ⌝ }
+{
+    let eightbit = core.modes.eightbit;
+    let kind = reply_to(core, action);
+    if reply.len() - replied < reply_len(eightbit, kind) {
+        return Sent {
+            replied,
+            full: true,
+        };
+    }
+    Sent {
+        replied: send(eightbit, kind, reply, replied),
+        full: false,
+    }
+}
+
+fn ended(core: Core, tracked: Tracked, read: usize, replied: usize, full: bool) -> FedBytes
+    ensures { λ r. ⌜ r ≡ record { state = record { core = core; tracked = tracked }; read = read; replied = replied; full = full } ⌝ }
+{
+    FedBytes {
+        state: State { core, tracked },
+        read,
+        replied,
+        full,
+    }
+}
+
+// The bytes of the input, until one's reply does not fit: characters that are just put, bytes that
+// only move the parser, then one of any kind.
+pub fn feed_bytes(state: State, page: &mut [u16], input: &[u8], reply: &mut [u8]) -> FedBytes
+    requires { ⌜ Ready state (now page) ⌝ }
+    ensures { λ r. ⌜ record { result = r; page = now (page .exit); reply = now (reply .exit) }
+        ≡ bytesFed state (now (page .entry)) (now (input .entry)) (now (reply .entry)) ⌝ }
+{
+    let mut core = state.core;
+    let mut tracked = state.tracked;
+    let mut i = 0;
+    let mut replied = 0;
+    while i < input.len() {
+        let printed = print_characters(core, tracked, page, input, i);
+        let cursor = printed.cursor;
+        core.cursor = cursor;
+        tracked = printed.tracked;
+        let parser = core.parser;
+        let idle = idle_run(parser, input, printed.next);
+        let parser = idle.parser;
+        core.parser = parser;
+        i = idle.next;
+        if i < input.len() {
+            let byte = input[i];
+            let decoded = parser.decode(byte);
+            let action = decoded.action;
+            let sent = send_reply(core, byte, action, reply, replied);
+            if sent.full {
+                return ended(core, tracked, i, replied, true);
+            }
+            replied = sent.replied;
+            let after = step(core, byte, decoded, page);
+            core = after.core;
+            tracked = tracked.note(after.changed);
+            i += 1;
+        }
+    }
+    ended(core, tracked, i, replied, false)
+}

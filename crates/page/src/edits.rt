@@ -1,0 +1,186 @@
+// Edits: one function for each, and `apply` for any. Nothing outside this crate writes a page.
+use crate::Edit;
+use crate::rows::erase_row;
+use crate::rows::fill_row;
+use crate::rows::fill_rows;
+use crate::rows::lower_rows;
+use crate::rows::place;
+use crate::rows::raise_rows;
+use cells::BLANK;
+use cells::COLUMNS;
+use cells::marks::row_bit;
+use cells::segments::copy_words;
+use cells::segments::fill_words;
+ghost use mathlib.Core.Path.{_≡_};
+ghost use Prim.Native.Nat.{_+_, _-_, _/_, _≤_};
+ghost use lib.ListN.{length, replicate};
+ghost use Rattle.page.specs.declared.Edit.the-variants.{Put, InsertCells, DeleteCells, ScrollUp, ScrollDown, Fill, SelectiveErase};
+ghost use Rattle.cells.specs.Cells.{blank};
+ghost use Rattle.page.specs.Edits.{runStart};
+ghost use Rattle.page.specs.Writes.{Edited, BlockFits, Fits, Applied};
+
+// The page's width among places in reading order, and how far a row's last cell is from its first.
+const WIDTH: u16 = COLUMNS as u16;
+
+const LAST: u16 = WIDTH - 1;
+
+// A word into one cell.
+pub fn put(page: &mut [u16], row: u8, column: u8, word: u16) -> u64
+    requires { ⌜ BlockFits (now page) row (row + 1) column (column + 1) ⌝ }
+    ensures { λ r. ⌜ Edited (Put row column word) (now (page .entry)) (now (page .exit)) r ⌝ }
+{
+    let at = place(row, column);
+    let changed = page[at] != word;
+    page[at] = word;
+    row_bit(row, changed)
+}
+
+// The cells of a row go right from `column`, up to `end`, and `word` enters.
+fn insert_cells(page: &mut [u16], row: u8, column: u8, end: u8, count: u8, word: u16) -> u64
+    requires { ⌜ BlockFits (now page) row (row + 1) column end × (count ≤ end - column) ⌝ }
+    ensures { λ r. ⌜ Edited (InsertCells row column end count word) (now (page .entry)) (now (page .exit)) r ⌝ }
+{
+    let at = place(row, column);
+    let n = count as usize;
+    let rest = (end - column - count) as usize;
+    let moved = copy_words(page, at + n, at, rest);
+    let filled = fill_words(page, at, n, word);
+    row_bit(row, moved | filled)
+}
+
+// The cells of a row go left, down to `column`, and blanks enter before `end`.
+fn delete_cells(page: &mut [u16], row: u8, column: u8, end: u8, count: u8) -> u64
+    requires { ⌜ BlockFits (now page) row (row + 1) column end × (count ≤ end - column) ⌝ }
+    ensures { λ r. ⌜ Edited (DeleteCells row column end count) (now (page .entry)) (now (page .exit)) r ⌝ }
+{
+    let at = place(row, column);
+    let n = count as usize;
+    let rest = (end - column - count) as usize;
+    let moved = copy_words(page, at, at + n, rest);
+    let filled = fill_words(page, at + rest, n, BLANK);
+    row_bit(row, moved | filled)
+}
+
+// Rows go up, and blanks enter below.
+fn scroll_up(page: &mut [u16], top: u8, end: u8, left: u8, right: u8, count: u8) -> u64
+    requires { ⌜ BlockFits (now page) top end left right × (count ≤ end - top) ⌝ }
+    ensures { λ r. ⌜ Edited (ScrollUp top end left right count) (now (page .entry)) (now (page .exit)) r ⌝ }
+{
+    let last = end - count;
+    let moved = raise_rows(page, top, last, left, right, count);
+    moved | fill_rows(page, last, end, left, right, BLANK)
+}
+
+// Rows go down, and blanks enter above.
+fn scroll_down(page: &mut [u16], top: u8, end: u8, left: u8, right: u8, count: u8) -> u64
+    requires { ⌜ BlockFits (now page) top end left right × (count ≤ end - top) ⌝ }
+    ensures { λ r. ⌜ Edited (ScrollDown top end left right count) (now (page .entry)) (now (page .exit)) r ⌝ }
+{
+    let first = top + count;
+    let moved = lower_rows(page, first, end, left, right, count);
+    moved | fill_rows(page, top, first, left, right, BLANK)
+}
+
+// The column at which a place in reading order meets a row: 0 if it lies before it, 80 if behind it.
+fn column_in(place: u16, row: u8) -> u8
+    ensures { λ r. ⌜ r ≡ runStart place row ⌝ }
+{
+    let first = WIDTH * (row as u16);
+    if place <= first {
+        0
+    } else if place - first < WIDTH {
+        (place - first) as u8
+    } else {
+        WIDTH as u8
+    }
+}
+
+// Each cell of a run becomes `word`.
+fn fill(page: &mut [u16], from: u16, to: u16, word: u16) -> u64
+    requires { ⌜ BlockFits (now page) (from / 80) ((to + 79) / 80) 0 80 × (from ≤ to) ⌝ }
+    ensures { λ r. ⌜ Edited (Fill from to word) (now (page .entry)) (now (page .exit)) r ⌝ }
+{
+    let mut bits = 0;
+    let mut k = (from / WIDTH) as u8;
+    let end = ((to + LAST) / WIDTH) as u8;
+    while k < end {
+        bits |= fill_row(page, k, column_in(from, k), column_in(to, k), word);
+        k += 1;
+    }
+    bits
+}
+
+// Each cell of a run that is not protected becomes a space.
+fn selective_erase(page: &mut [u16], from: u16, to: u16) -> u64
+    requires { ⌜ BlockFits (now page) (from / 80) ((to + 79) / 80) 0 80 × (from ≤ to) ⌝ }
+    ensures { λ r. ⌜ Edited (SelectiveErase from to) (now (page .entry)) (now (page .exit)) r ⌝ }
+{
+    let mut bits = 0;
+    let mut k = (from / WIDTH) as u8;
+    let end = ((to + LAST) / WIDTH) as u8;
+    while k < end {
+        bits |= erase_row(page, k, column_in(from, k), column_in(to, k));
+        k += 1;
+    }
+    bits
+}
+
+// Any edit. Each function goes by the edit's own numbers, so `rows` is there for the promise alone.
+fn change(edit: Edit, page: &mut [u16], rows: u8) -> u64
+    requires { ⌜ Fits rows edit (now page) ⌝ }
+    ensures { λ r. ⌜ Applied rows edit (now (page .entry)) (now (page .exit)) r ⌝ }
+{
+    match edit {
+        Edit::Keep => 0,
+        Edit::Put { row, column, word } => put(page, row, column, word),
+        Edit::InsertCells {
+            row,
+            column,
+            end,
+            count,
+            word,
+        } => insert_cells(page, row, column, end, count, word),
+        Edit::DeleteCells {
+            row,
+            column,
+            end,
+            count,
+        } => delete_cells(page, row, column, end, count),
+        Edit::ScrollUp {
+            top,
+            end,
+            left,
+            right,
+            count,
+        } => scroll_up(page, top, end, left, right, count),
+        Edit::ScrollDown {
+            top,
+            end,
+            left,
+            right,
+            count,
+        } => scroll_down(page, top, end, left, right, count),
+        Edit::Fill { from, to, word } => fill(page, from, to, word),
+        Edit::SelectiveErase { from, to } => selective_erase(page, from, to),
+    }
+}
+
+// Applies an edit to a page of `rows` rows, and hands back the bits of the rows that it changed. Most
+// often there is nothing to do.
+pub fn apply(edit: Edit, page: &mut [u16], rows: u8) -> u64
+    requires { ⌜ Fits rows edit (now page) ⌝ }
+    ensures { λ r. ⌜ Applied rows edit (now (page .entry)) (now (page .exit)) r ⌝ }
+{
+    match edit {
+        Edit::Keep => 0,
+        _ => change(edit, page, rows),
+    }
+}
+
+// Blanks every cell.
+pub fn clear(page: &mut [u16])
+    ensures { λ _. ⌜ now (page .exit) ≡ replicate (length (now (page .entry))) blank ⌝ }
+{
+    let len = page.len();
+    let _ = fill_words(page, 0, len, BLANK);
+}

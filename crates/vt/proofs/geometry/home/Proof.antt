@@ -1,0 +1,10 @@
+-- The row is what `first_row` says, and `home` goes there.
+use borrow.Author.Needs.{needs}
+use Rattle.vt.proofs.geometry.home.Statement.{statement}
+use Rattle.vt.proofs.geometry.home.Tie as tie
+
+returns : tie.Need-returns
+returns c = rw (c .home .ensures, c .before .first-row .ensures)
+
+pub home-spec : {M : Type 1} → statement M
+home-spec = tie.close (tie.spec (λ c κs. search needs) (λ c κs. search needs) returns)

@@ -1,0 +1,42 @@
+-- What is shown of each function: its core is whole but for wrap due, its edits stay on the page.
+use mathlib.Core.Path.{_≡_, refl}
+use mathlib.Core.Bool.{Bool, true, false}
+use Prim.Native.Nat.{ℕ}
+use Rattle.page.specs.declared.Edit.{Edit}
+use Rattle.page.specs.Edits.{Within}
+use Rattle.vt.specs.declared.core.Core.{Core}
+use Rattle.vt.specs.declared.core.Decision.{Decision}
+use Rattle.vt.specs.Whole.{Parts, WrapOf, Whole}
+use Rattle.dispatch.specs.WrapDue.{withWrapPolicy}
+use Rattle.vt.specs.Effects.{oneEdit, unedited}
+use Rattle.wholeness.proofs.Wholeness.{no-wrap}
+
+-- where `t` says that the policy does not clear wrap due, it is held as it is
+pub record Good (r : ℕ) (t : Bool) (d : Decision) : Type 0 where
+  pub rows : d .core .rows ≡ r
+  pub parts : Parts (d .core)
+  pub wrap : t ≡ false → WrapOf (d .core)
+  pub first : Within r (d .first)
+  pub second : Within r (d .second)
+
+-- a decision's core is whole and has its rows, and its edits stay on a page of so many rows, however many
+pub record Sound (r : ℕ) (d : Decision) : Type 0 where
+  pub rows : d .core .rows ≡ r
+  pub whole : Whole (d .core)
+  pub first : Within r (d .first)
+  pub second : Within r (d .second)
+
+pub policy-sound : (r : ℕ) (t : Bool) (d : Decision) → Good r t d → Sound r (withWrapPolicy t d)
+policy-sound r true d g = record {
+  rows = g .rows;
+  whole = record { parts = g .parts; wrap = no-wrap (d .core .cursor .column) (d .core .modes .autowrap) };
+  first = g .first;
+  second = g .second;
+}
+policy-sound r false d g = record { rows = g .rows; whole = record { parts = g .parts; wrap = g .wrap refl }; first = g .first; second = g .second }
+
+pub good-one-edit : (c : Core) (t : Bool) (e : Edit) → Parts c → (t ≡ false → WrapOf c) → Within (c .rows) e → Good (c .rows) t (oneEdit c e)
+good-one-edit c t e p h i = record { rows = refl; parts = p; wrap = h; first = i; second = tt }
+
+pub good-unedited : (c : Core) (t : Bool) → Parts c → (t ≡ false → WrapOf c) → Good (c .rows) t (unedited c)
+good-unedited c t p h = good-one-edit c t _ p h tt

@@ -1,0 +1,11 @@
+pub mod Wholeness
+pub mod Decisions
+pub mod SoundMoves
+pub mod SoundPrinting
+pub mod SoundControls
+pub mod SoundEscapes
+pub mod SoundSequences
+pub mod SoundParser
+pub mod Sound
+pub mod SoundWords
+pub mod ReplyLength
