@@ -118,11 +118,11 @@ uint8_t pankholim_feed(pankholim_terminal *terminal, uint16_t *page, size_t cell
  * Asks for the changed rows: those where a step of a feeding changed a cell since the last asking that was
  * answered 0, or since the start.
  *
- * 0: bit n - 1 of *rows is 1 exactly if row n changed (see pankholim_row_changed), *count is how many did,
+ * 0: bit n - 1 of *changed is 1 exactly if row n changed (see pankholim_row_changed), *count is how many did,
  *    and the record has none noted any more.
- * 1: the record is not whole, and is left; *rows and *count are 0.
+ * 1: the record is not whole, and is left; *changed and *count are 0.
  */
-uint8_t pankholim_ask(pankholim_terminal *terminal, uint64_t *rows, uint32_t *count);
+uint8_t pankholim_ask(pankholim_terminal *terminal, uint64_t *changed, uint32_t *count);
 
 /*
  * Reads the cell at a row and column, both from 1. Any numbers may be asked for.
@@ -212,9 +212,9 @@ static inline int pankholim_is_protected(uint16_t word)
 }
 
 /* Is row `row` in a set that pankholim_ask gave? Any number may be asked for. */
-static inline int pankholim_row_changed(uint64_t rows, size_t row)
+static inline int pankholim_row_changed(uint64_t changed, size_t row)
 {
-    return 1 <= row && row <= PANKHOLIM_MAX_ROWS && ((rows >> (row - 1)) & 1) != 0;
+    return 1 <= row && row <= PANKHOLIM_MAX_ROWS && ((changed >> (row - 1)) & 1) != 0;
 }
 
 #ifdef __cplusplus

@@ -29,7 +29,7 @@ extern "C" {
         replied: *mut usize,
     ) -> u8;
 
-    pub fn pankholim_ask(terminal: *mut Terminal, rows: *mut u64, count: *mut u32) -> u8;
+    pub fn pankholim_ask(terminal: *mut Terminal, changed: *mut u64, count: *mut u32) -> u8;
 
     pub fn pankholim_read(
         terminal: *const Terminal,

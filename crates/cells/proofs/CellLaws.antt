@@ -1,39 +1,45 @@
 -- A cell and its word: each field is a digit of the word of its own, so none is lost, and what is left over is zero.
-use mathlib.Core.Path.{_≡_, refl, sym, ap, _∙_}
-use mathlib.Core.Bool.{Bool, true, false, cond}
+use mathlib.Core.Path.{_≡_, refl}
+use mathlib.Core.Bool.{Bool, true, false}
 use mathlib.Core.List.{[], _∷_}
+use mathlib.Core.Logic.{⊎-elim}
 use Prim.Native.Nat.{ℕ, zero, suc, _+_, _*_, _/_, _%_, _^_, _<_}
+use native.Mathlib.Nat.{div-div-eq-div-mul}
 use native.Mathlib.Omega.{arith}
+use lib.Arith.{mod-mul}
+use lib.Dec.{lit<}
 use lib.ListN.{getD}
 use borrow.Author.Tests.{eq-eqb, ne-eqb}
+use Rattle.ground.proofs.ListLaws.{split-eq}
+use Rattle.ground.proofs.TestLaws.{either}
 use Rattle.cells.specs.declared.CharSet.{CharSet}
 use Rattle.cells.specs.declared.CharSet.the-variants.{Ascii, SpecialGraphics, Supplemental, Latin1}
 use Rattle.cells.specs.declared.Cell.{Cell}
-use Rattle.cells.specs.Cells.{setNumber, setOf, bit, flag, renditionBits, packed, unpacked}
-use Rattle.cells.specs.Cells.{plainCell, blank, spaced, selectivelyErased, hasSign, Printable}
-use Rattle.cells.proofs.WordLaws.{bit-lt}
+use Rattle.cells.specs.Cells.{setNumber, setOf, bit, flag, packed, unpacked, plainCell, blank, spaced, selectivelyErased, hasSign, Printable}
 
 -- ---- the digits
 
-set-small : (s : CharSet) → setNumber s < 4
-set-small Ascii = omega arith
-set-small SpecialGraphics = omega arith
-set-small Supplemental = omega arith
-set-small Latin1 = omega arith
+pub bit-lt : (b : Bool) → bit b < 2
+bit-lt true = lit< tt
+bit-lt false = lit< tt
 
--- a digit before the others is the remainder
-flag-back : (b : Bool) (n k : ℕ) → n ≡ bit b + 2 * k → flag n ≡ b
+pub bit-flag : (n : ℕ) → bit (flag n) ≡ n % 2
+bit-flag n = ⊎-elim (λ e. rw (eq-eqb (n % 2) 1 e) (omega arith)) (λ e. rw (ne-eqb (n % 2) 1 e) (omega arith)) (split-eq (n % 2) 1)
+
+-- a flag before the others is the remainder
+pub flag-back : (b : Bool) (n k : ℕ) → n ≡ bit b + 2 * k → flag n ≡ b
 flag-back true n k e = eq-eqb (n % 2) 1 (omega arith)
 flag-back false n k e = ne-eqb (n % 2) 1 (omega arith)
 
+-- and so is a set's number
+set-digit : (s : CharSet) → (setNumber s < 4) × (setOf (setNumber s) ≡ s)
+set-digit Ascii = (omega arith, refl)
+set-digit SpecialGraphics = (omega arith, refl)
+set-digit Supplemental = (omega arith, refl)
+set-digit Latin1 = (omega arith, refl)
+
 set-back : (s : CharSet) (n k : ℕ) → n ≡ setNumber s + 4 * k → setOf (n % 4) ≡ s
-set-back s n k e = let h = set-small s in let low : n % 4 ≡ setNumber s = omega arith in ap setOf low ∙ number s
-  where
-    number : (s : CharSet) → setOf (setNumber s) ≡ s
-    number Ascii = refl
-    number SpecialGraphics = refl
-    number Supplemental = refl
-    number Latin1 = refl
+set-back s n k e = let low : n % 4 ≡ setNumber s = omega (arith, set-digit s .0) in rw low (set-digit s .1)
 
 -- the numbers are in the documented order
 pub set-at : (n : ℕ) → n < 4 → setOf n ≡ getD (Ascii ∷ SpecialGraphics ∷ Supplemental ∷ Latin1 ∷ []) n Ascii
@@ -46,27 +52,15 @@ set-at (suc (suc (suc (suc n)))) h = absurd (omega arith)
 -- ---- every cell
 
 -- none of its numbers reaches into the next one's place
-record Small (c : Cell) : Type 0 where
-  set : setNumber (c .set) < 4
-  bold : bit (c .rendition .bold) < 2
-  underline : bit (c .rendition .underline) < 2
-  blink : bit (c .rendition .blink) < 2
-  reverse : bit (c .rendition .reverse) < 2
-  protected : bit (c .protected) < 2
-
-small : (c : Cell) → Small c
-small c = record {
-  set = set-small (c .set);
-  bold = bit-lt (c .rendition .bold);
-  underline = bit-lt (c .rendition .underline);
-  blink = bit-lt (c .rendition .blink);
-  reverse = bit-lt (c .rendition .reverse);
-  protected = bit-lt (c .protected);
-}
+small : (c : Cell) → (setNumber (c .set) < 4) × (bit (c .rendition .bold) < 2) × (bit (c .rendition .underline) < 2)
+    × (bit (c .rendition .blink) < 2) × (bit (c .rendition .reverse) < 2) × (bit (c .protected) < 2)
+small c =
+    let r = c .rendition in
+    (set-digit (c .set) .0, bit-lt (r .bold), bit-lt (r .underline), bit-lt (r .blink), bit-lt (r .reverse), bit-lt (c .protected))
 
 pub packed-small : (c : Cell) → packed c < 2 ^ 14
 unfolding packed
-packed-small c = let s = small c in omega arith
+packed-small c = omega (arith, small c)
 
 -- a cell comes back from its word
 pub cell-back : (c : Cell) → c .code < 128 → unpacked (packed c) ≡ c
@@ -74,33 +68,37 @@ unfolding packed unpacked
 cell-back c h =
     let s = small c in
     let w : ℕ = packed c in
-    let code : w % 128 ≡ c .code = omega arith in
     let p : ℕ = bit (c .protected) in
     let r : ℕ = bit (c .rendition .reverse) in
     let k : ℕ = bit (c .rendition .blink) in
     let u : ℕ = bit (c .rendition .underline) in
-    let set : setOf (w / 128 % 4) ≡ c .set = set-back (c .set) (w / 128) (renditionBits (c .rendition) + 16 * p) (omega arith) in
-    let bold : flag (w / 512) ≡ c .rendition .bold = flag-back (c .rendition .bold) (w / 512) (u + 2 * k + 4 * r + 8 * p) (omega arith) in
-    let underline : flag (w / 1024) ≡ c .rendition .underline = flag-back (c .rendition .underline) (w / 1024) (k + 2 * r + 4 * p) (omega arith) in
-    let blink : flag (w / 2048) ≡ c .rendition .blink = flag-back (c .rendition .blink) (w / 2048) (r + 2 * p) (omega arith) in
-    let reverse : flag (w / 4096) ≡ c .rendition .reverse = flag-back (c .rendition .reverse) (w / 4096) p (omega arith) in
-    let protected : flag (w / 8192) ≡ c .protected = flag-back (c .protected) (w / 8192) 0 (omega arith) in
-    λ i. record {
-      code = code i;
-      set = set i;
-      rendition = record { bold = bold i; underline = underline i; blink = blink i; reverse = reverse i };
-      protected = protected i;
-    }
+    let code : w % 128 ≡ c .code = omega arith in
+    let set = set-back (c .set) (w / 128) (bit (c .rendition .bold) + 2 * u + 4 * k + 8 * r + 16 * p) (omega arith) in
+    let bold = flag-back (c .rendition .bold) (w / 512) (u + 2 * k + 4 * r + 8 * p) (omega arith) in
+    let underline = flag-back (c .rendition .underline) (w / 1024) (k + 2 * r + 4 * p) (omega arith) in
+    let blink = flag-back (c .rendition .blink) (w / 2048) (r + 2 * p) (omega arith) in
+    let reverse = flag-back (c .rendition .reverse) (w / 4096) p (omega arith) in
+    let protected = flag-back (c .protected) (w / 8192) 0 (omega arith) in
+    rw (code, set, bold, underline, blink, reverse, protected)
 
 -- so two cells with one word are one cell
 pub same-word : (c d : Cell) → c .code < 128 → d .code < 128 → packed c ≡ packed d → c ≡ d
-same-word c d h k e = sym (cell-back c h) ∙ ap unpacked e ∙ cell-back d k
+same-word c d h k e = cc (cell-back c h, cell-back d k)
 
 pub blank-packed : packed (plainCell 0x20) ≡ blank
 unfolding packed
 blank-packed = refl
 
 -- ---- every word
+
+-- a digit of base 2m is one of base m and a bit
+digit : (w c m : ℕ) → 0 < m → w / c % (m * 2) ≡ w / (c * 2) % m * 2 + w / c % 2
+digit w c m h = rw (mod-mul (w / c) {m = m} {c = 2} h (lit< tt), div-div-eq-div-mul w c 2)
+
+pub spaced-is : (w : ℕ) → spaced w ≡ 32 + 512 * (w / 512 % 32)
+unfolding spaced packed unpacked
+spaced-is w =
+    simp bit-flag (omega (arith, digit w 512 16 (lit< tt), digit w 1024 8 (lit< tt), digit w 2048 4 (lit< tt), digit w 4096 2 (lit< tt)))
 
 -- what selective erase leaves
 pub erased-protected : (w : ℕ) → unpacked w .protected ≡ true → selectivelyErased w ≡ w
@@ -111,7 +109,8 @@ pub erased-other : (w : ℕ) → unpacked w .protected ≡ false → selectively
 unfolding selectivelyErased
 erased-other w e = rw e
 
-pub spaced-back : (w : ℕ) → unpacked (spaced w) ≡ record { code = 0x20; set = Ascii; rendition = unpacked w .rendition; protected = unpacked w .protected }
+pub spaced-back : (w : ℕ)
+    → unpacked (spaced w) ≡ record { code = 0x20; set = Ascii; rendition = unpacked w .rendition; protected = unpacked w .protected }
 unfolding spaced
 spaced-back w = cell-back _ (omega arith)
 
@@ -122,7 +121,7 @@ spaced-small w = packed-small _
 -- ---- what bytes put into cells
 
 pub packed-printable : (c : Cell) → c .code < 128 → hasSign (c .set) (c .code) ≡ true → Printable (packed c)
-packed-printable c h e = record { code = ap (λ (d : Cell). hasSign (d .set) (d .code)) (cell-back c h) ∙ e; unused = packed-small c }
+packed-printable c h e = record { code = rw (cell-back c h) e; unused = packed-small c }
 
 pub blank-printable : Printable blank
 unfolding unpacked
@@ -130,8 +129,4 @@ blank-printable = record { code = refl; unused = omega arith }
 
 pub erased-printable : (w : ℕ) → Printable w → Printable (selectivelyErased w)
 unfolding selectivelyErased spaced
-erased-printable w h = go (unpacked w .protected)
-  where
-    go : (t : Bool) → Printable (cond t w (spaced w))
-    go true = h
-    go false = packed-printable _ (omega arith) refl
+erased-printable w h = either Printable (unpacked w .protected) (λ e. h) (λ e. packed-printable _ (omega arith) refl)

@@ -1,9 +1,10 @@
 -- A property that every word of a list has, its parts have, and what is put together of lists that have it.
-use mathlib.Core.Bool.{Bool, true, false, cond}
+use mathlib.Core.Bool.{Bool, cond}
 use mathlib.Core.List.{List, [], _∷_, _++_, map}
 use Prim.Native.Nat.{ℕ, zero, suc, _+_, _-_}
 use lib.ListN.{take, drop, set, replicate}
 use lib.Seq.{paste}
+use Rattle.ground.proofs.TestLaws.{either}
 use Rattle.cells.specs.Rows.{joined, rowsOf, nth, Every}
 
 pub every-weaker : (P Q : ℕ → Type 0) → ((w : ℕ) → P w → Q w) → (l : List ℕ) → Every P l → Every Q l
@@ -39,14 +40,10 @@ module _ (P : ℕ → Type 0) where
   every-map f g (x ∷ l) h = (g x (h .0), every-map f g l (h .1))
 
   pub every-paste : (d : List ℕ) (at : ℕ) (s : List ℕ) (n : ℕ) → Every P d → Every P s → Every P (paste d at s n)
-  every-paste d at s n h k =
-      every-append (take at d ++ take n s) (drop (at + n) d)
-      (every-append (take at d) (take n s) (every-take at d h) (every-take n s k))
-      (every-drop (at + n) d h)
+  every-paste d at s n h k = search (every-append, every-take, every-drop)
 
   pub every-cond : (t : Bool) (a b : List ℕ) → Every P a → Every P b → Every P (cond t a b)
-  every-cond true a b h k = h
-  every-cond false a b h k = k
+  every-cond t a b h k = either (Every P) t (λ e. h) (λ e. k)
 
   -- ---- rows
 

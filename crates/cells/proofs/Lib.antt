@@ -1,4 +1,3 @@
-pub mod WordLaws
 pub mod CellLaws
 pub mod BitLaws
 pub mod Differing

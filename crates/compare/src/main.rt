@@ -3,27 +3,25 @@
 // and two numbers of two bytes; after F comes the input, after Q a parser.
 use libc::STDIN_FILENO;
 use libc::STDOUT_FILENO;
-use output::least;
-use output::put;
-use output::put_bytes;
-use output::put_number;
-use output::put_words;
-use pokes::number16;
-use pokes::poke;
-use pokes::poke_parser;
+use probes::output::least;
+use probes::output::put;
+use probes::output::put_bytes;
+use probes::output::put_number;
+use probes::output::put_words;
+use probes::pokes::number16;
+use probes::pokes::poke;
+use probes::pokes::poke_parser;
+use probes::views::put_core;
 use steps::State;
+use terminal::Answer;
+use terminal::Fed;
 use terminal::answers::number;
 use terminal::calls::ask;
 use terminal::calls::feed;
 use terminal::calls::read;
 use terminal::calls::start;
 use text::Written;
-use views::put_core;
 ghost use Prim.Native.Nat.{_<_};
-
-mod output;
-mod pokes;
-mod views;
 
 // The newest state, how many words of the buffer are lent as the page, and whether the script goes on.
 struct Session {
@@ -38,11 +36,16 @@ fn flush(out: &[u8], end: usize) {
     io::write_all(STDOUT_FILENO, &out[..n]);
 }
 
+// The letter of a command, and the number of its answer: they begin what is written of a call.
+fn put_answer(out: &mut [u8], letter: u8, answer: Answer) -> usize {
+    let name = put(out, 0, letter);
+    put(out, name, number(answer))
+}
+
 fn do_start(rows: u16, page: &mut [u16], out: &mut [u8]) -> State {
     let begun = start(rows as usize, page);
     let answer = begun.answer;
-    let name = put(out, 0, b'S');
-    let end = put(out, name, number(answer));
+    let end = put_answer(out, b'S', answer);
     flush(out, end);
     begun.state
 }
@@ -56,6 +59,15 @@ fn prepare(reply: &mut [u8]) {
     }
 }
 
+fn tell_fed(fed: Fed, reply: &[u8], out: &mut [u8]) {
+    let answer = fed.answer;
+    let code = put_answer(out, b'F', answer);
+    let count = put_number(out, code, fed.read as u64, 2);
+    let sent = put_number(out, count, fed.replied as u64, 2);
+    let end = put_bytes(out, sent, reply);
+    flush(out, end);
+}
+
 fn do_feed(
     state: State,
     page: &mut [u16],
@@ -65,21 +77,14 @@ fn do_feed(
 ) -> State {
     prepare(reply);
     let fed = feed(state, page, input, reply);
-    let answer = fed.answer;
-    let name = put(out, 0, b'F');
-    let code = put(out, name, number(answer));
-    let count = put_number(out, code, fed.read as u64, 2);
-    let sent = put_number(out, count, fed.replied as u64, 2);
-    let end = put_bytes(out, sent, reply);
-    flush(out, end);
+    tell_fed(fed, reply, out);
     fed.state
 }
 
 fn do_ask(state: State, out: &mut [u8]) -> State {
     let asked = ask(state);
     let answer = asked.answer;
-    let name = put(out, 0, b'A');
-    let code = put(out, name, number(answer));
+    let code = put_answer(out, b'A', answer);
     let rows = put_number(out, code, asked.rows, 8);
     let end = put_number(out, rows, asked.count as u64, 1);
     flush(out, end);
@@ -89,8 +94,7 @@ fn do_ask(state: State, out: &mut [u8]) -> State {
 fn do_read(state: State, page: &[u16], row: u16, column: u16, out: &mut [u8]) {
     let cell = read(state, page, row as usize, column as usize);
     let answer = cell.answer;
-    let name = put(out, 0, b'R');
-    let code = put(out, name, number(answer));
+    let code = put_answer(out, b'R', answer);
     let end = put_number(out, code, cell.word as u64, 2);
     flush(out, end);
 }
@@ -196,6 +200,26 @@ fn with_state(session: Session, state: State) -> Session {
     }
 }
 
+// The commands that need no page, and the end of the script.
+fn change(session: Session, letter: u8, a: u16, b: u16, out: &mut [u8]) -> Session {
+    let state = session.state;
+    match letter {
+        b'L' => Session {
+            state,
+            words: a as usize,
+            on: true,
+        },
+        b'A' => with_state(session, do_ask(state, out)),
+        b'B' => with_state(session, poke(state, a, b)),
+        b'Q' => with_state(session, do_parser(state)),
+        _ => Session {
+            state,
+            words: session.words,
+            on: false,
+        },
+    }
+}
+
 fn carry(
     session: Session,
     letter: u8,
@@ -206,27 +230,14 @@ fn carry(
     reply: &mut [u8],
     out: &mut [u8],
 ) -> Session {
-    let state = session.state;
     match letter {
         b'S' => begin(a, b, page, out),
-        b'L' => Session {
-            state,
-            words: a as usize,
-            on: true,
-        },
         b'F' => with_state(session, take(session, a, b, page, input, reply, out)),
-        b'A' => with_state(session, do_ask(state, out)),
-        b'B' => with_state(session, poke(state, a, b)),
-        b'Q' => with_state(session, do_parser(state)),
         b'R' | b'P' | b'T' | b'V' | b'W' => {
             look(session, letter, a, b, page, input, out);
             session
         }
-        _ => Session {
-            state,
-            words: session.words,
-            on: false,
-        },
+        _ => change(session, letter, a, b, out),
     }
 }
 

@@ -1,6 +1,6 @@
 -- One call reads a byte at least, and does what it read; calls one after the other do all the input; a start on 1,920 words is not refused.
 use mathlib.Core.Path.{_≡_, refl, sym, ap, ap₂, _∙_, subst}
-use mathlib.Core.List.{List, [], _∷_}
+use mathlib.Core.List.{List}
 use Prim.Native.Nat.{ℕ, _+_, _-_, _*_, _≤_, _<_, zero-le}
 use native.Mathlib.Omega.{arith}
 use lib.Dec.{lit<}
@@ -8,30 +8,23 @@ use lib.ListN.{length, take, drop, length-drop, length-replicate}
 use lib.Seq.{take-add, take-all}
 use borrow.Author.Tests.{eq-eqb}
 use Rattle.cells.specs.Cells.{blank}
-use Rattle.vt.specs.declared.core.Core.{Core}
-use Rattle.vt.specs.Whole.{Whole}
-use Rattle.vt.specs.Fresh.{freshCore}
+use Rattle.core.specs.Fresh.{freshCore}
 use Rattle.wholeness.proofs.Wholeness.{sized-rows, fresh-whole}
-use Rattle.wholeness.proofs.ReplyLength.{sends-short}
 use Rattle.steps.specs.declared.State.{State}
 use Rattle.terminal.specs.declared.Fed.{Fed}
 use Rattle.terminal.specs.declared.Started.{Started}
 use Rattle.terminal.specs.declared.Answer.the-variants.{Done}
 use Rattle.terminal.specs.Answers.{number}
-use Rattle.steps.specs.Steps.{Screen, ran, readable, screen}
+use Rattle.steps.specs.Steps.{Screen, ran, screen}
 use Rattle.terminal.specs.Start.{Start, fresh, blankPage, started}
 use Rattle.feeding.specs.Bytes.{readCount}
 use Rattle.terminal.specs.Feed.{Feed, fitting, feedFirst, fed}
 use Rattle.steps.specs.Ready.{Ready}
-use Rattle.steps.proofs.StepLaws.{ReadyAt, ready-ran, ran-append, readable-fits, readable-most}
-use Rattle.terminal.proofs.CallLaws.{state-tested, fed-run, started-as}
+use Rattle.steps.proofs.StepLaws.{ReadyAt, ready-ran, ran-append, readable-most}
+use Rattle.terminal.proofs.CallLaws.{reads-one, state-tested, fed-processed, started-as}
 use Rattle.console.specs.Feeding.{RanOver}
 
 -- ---- one call
-
-reads-one : (room : ℕ) (c : Core) (i : List ℕ) → Whole c → 11 ≤ room → 0 < length i → 1 ≤ readable room c i
-reads-one room c [] w r h = absurd (omega arith)
-reads-one room c (b ∷ bs) w r h = rw (readable-fits room c b bs (omega (arith, sends-short c w b))) (omega arith)
 
 pub record OneCall (s : State) (p i : List ℕ) (r : Fed) (p' : List ℕ) : Type 0 where
   pub some : 1 ≤ r .read
@@ -44,11 +37,11 @@ one-call s p i o r p' o' k room more e =
     let n : ℕ = readCount s i o in
     let d : Screen = ran (screen s p) (take n i) in
     let run : record { number = number (r .answer); result = r; page = p'; reply = o' } ≡ feedFirst (fitting s i o) n s p i o =
-    e ∙ fed-run s p i o (state-tested s (k .whole)) (k .size) in
+    e ∙ fed-processed s p i o (state-tested s (k .whole)) (k .size) in
     let count : r .read ≡ n = ap (λ (f : Feed). f .result .read) run in
     let whole : screen (r .state) p' ≡ d = ap₂ screen (ap (λ (f : Feed). f .result .state) run) (ap (λ (f : Feed). f .page) run) in
     record {
-      some = rw count (reads-one (length o) (s .core) i (k .whole .core) room more);
+      some = rw count (reads-one (length o) (s .core) i (k .whole .core) more room);
       most = rw count (readable-most (length o) (s .core) i);
       over = record {
         screen-is = rw count whole;
@@ -69,11 +62,6 @@ pub going-none : (s : State) (p input o : List ℕ) → Ready s p → Going s p 
 unfolding ran
 going-none s p input o k = record { within = zero-le; page-long = refl; reply-long = refl; over = record { screen-is = refl; ready = k } }
 
--- a call reads some of the bytes from there on, and does them
-pub record Turn (s₀ : State) (p₀ input o₀ : List ℕ) (from : ℕ) (r : Fed) (p' o' : List ℕ) : Type 0 where
-  pub some : 1 ≤ r .read
-  pub next : Going s₀ p₀ input o₀ (r .state) p' o' (from + r .read)
-
 module _ {s₀ : State} {p₀ input o₀ : List ℕ} {s : State} {p o : List ℕ} {from : ℕ} (g : Going s₀ p₀ input o₀ s p o from) where
   over-more : (n : ℕ) {s' : State} {p' : List ℕ} → RanOver s p (take n (drop from input)) s' p' → RanOver s₀ p₀ (take (from + n) input) s' p'
   over-more n b = record {
@@ -84,23 +72,22 @@ module _ {s₀ : State} {p₀ input o₀ : List ℕ} {s : State} {p o : List ℕ
     ready = b .ready;
   }
 
-  pub turn : {r : Fed} {p' o' : List ℕ} → 11 ≤ length o₀ → from < length input → length p' ≡ length p → length o' ≡ length o
-      → record { number = number (r .answer); result = r; page = p'; reply = o' } ≡ fed s p (take (length input - from) (drop from input)) o
-      → Turn s₀ p₀ input o₀ from r p' o'
-  turn {r} {p'} {o'} room more lp lo e =
-      let rest : take (length input - from) (drop from input) ≡ drop from input =
-      take-all (length input - from) (drop from input) (omega (arith, length-drop from input)) in
-      let long : 11 ≤ length o = omega (arith, g .reply-long) in
-      let one = one-call s p (drop from input) o r p' o' (g .over .ready) long (omega (arith, length-drop from input)) (rw rest at e) in
-      record {
-        some = one .some;
-        next = record {
-          within = omega (arith, one .most, length-drop from input);
-          page-long = lp ∙ g .page-long;
-          reply-long = lo ∙ g .reply-long;
-          over = over-more (r .read) (one .over);
-        };
-      }
+  -- a call reads some of the bytes from there on, and does them
+  module _ {r : Fed} {p' o' : List ℕ} (room : 11 ≤ length o₀) (more : from < length input) (lp : length p' ≡ length p) (lo : length o' ≡ length o)
+      (e : record { number = number (r .answer); result = r; page = p'; reply = o' } ≡ fed s p (take (length input - from) (drop from input)) o) where
+    one : OneCall s p (drop from input) r p'
+    one =
+        let rest = take-all (length input - from) (drop from input) (simp length-drop (omega arith)) in
+        one-call s p (drop from input) o r p' o' (g .over .ready) (omega arith) (simp length-drop (omega arith)) (rw rest at e)
+
+    pub turn-within : from + r .read ≤ length input
+    turn-within = omega (arith, one .most, length-drop from input)
+
+    pub turn-less : length input - (from + r .read) < length input - from
+    turn-less = omega (arith, one .some)
+
+    pub turn-next : Going s₀ p₀ input o₀ (r .state) p' o' (from + r .read)
+    turn-next = record { within = turn-within; page-long = lp ∙ g .page-long; reply-long = lo ∙ g .reply-long; over = over-more (r .read) (one .over) }
 
   pub going-all : length input ≤ from → RanOver s₀ p₀ input s p
   going-all h = subst (λ (xs : List ℕ). RanOver s₀ p₀ xs s p) (take-all from input h) (g .over)

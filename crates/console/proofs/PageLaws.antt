@@ -1,10 +1,10 @@
 -- A buffer of 5,784 bytes holds the text of 24 rows.
 use mathlib.Core.List.{List}
-use mathlib.Core.Path.{_≡_, ap, _∙_}
+use mathlib.Core.Path.{_≡_, sym, ap, _∙_}
 use Prim.Native.Nat.{ℕ, _≤_}
 use native.Mathlib.Omega.{arith}
-use lib.ListN.{length}
-use lib.Seq.{sets, length-sets}
+use lib.ListN.{length, take}
+use lib.Seq.{sets, length-sets, length-take-le}
 use Rattle.text.specs.declared.Written.{Written}
 use Rattle.text.specs.declared.Written.the-variants.{Complete}
 use Rattle.text.specs.Text.{textOf, Write, writtenNumber, writeAs, written}
@@ -24,3 +24,6 @@ module _ (p o : List ℕ) {r : Written} {o' : List ℕ} (size : length p ≡ 192
       let result : r ≡ Complete (length (textOf 24 p)) = ap (λ (w : Write). w .result) whole in
       let same : len ≡ length (textOf 24 p) = cc in
       omega (arith, text-short 24 p, ap length page-written, length-sets o 0 (textOf 24 p))
+
+  pub page-taken : (len : ℕ) → r ≡ Complete len → len ≡ length (take len o')
+  page-taken len er = sym (length-take-le len o' (page-within len er))

@@ -9,17 +9,17 @@ use Rattle.page.specs.declared.Edit.{Edit}
 use Rattle.page.specs.declared.Edit.the-variants.{InsertCells, DeleteCells, ScrollUp, ScrollDown, Fill, SelectiveErase}
 use Rattle.cells.specs.Cells.{plain, blank}
 use Rattle.parser.specs.declared.params.Params.{Params}
-use Rattle.vt.specs.declared.core.Margins.{Margins}
-use Rattle.vt.specs.declared.core.Core.{Core}
-use Rattle.vt.specs.declared.core.Decision.{Decision}
+use Rattle.core.specs.declared.Margins.{Margins}
+use Rattle.core.specs.declared.Core.{Core}
+use Rattle.core.specs.declared.Decision.{Decision}
 use Rattle.parser.specs.Params.{param, paramN, paramList}
 use Rattle.parser.specs.Families.{isPlain, isPrivate, isProtection, isSoftReset}
 use Rattle.device.specs.Tabs.{withoutTab, noTabs}
 use Rattle.device.specs.Cursor.{place, up, down, left, right, toColumn, offset}
-use Rattle.vt.specs.Fresh.{freshCore}
-use Rattle.vt.specs.Geometry.{leftStop, rightStop, topStop, bottomStop, firstRow, lastRow, home}
-use Rattle.vt.specs.Modes.{withInsert, withNewline, withOrigin, withAutowrap, withShown}
-use Rattle.vt.specs.Effects.{withCursor, withMargins, withTabs, withModes, withRendition, withProtected, oneEdit, unedited}
+use Rattle.core.specs.Fresh.{freshCore}
+use Rattle.core.specs.Geometry.{leftStop, rightStop, topStop, bottomStop, firstRow, lastRow, home}
+use Rattle.core.specs.Modes.{withInsert, withNewline, withOrigin, withAutowrap, withShown}
+use Rattle.core.specs.Effects.{withCursor, withMargins, withTabs, withModes, withRendition, withProtected, oneEdit, unedited}
 
 -- ---- moving the cursor
 
@@ -174,16 +174,16 @@ selectProtection c q =
 -- ---- margins and soft reset
 
 -- r (DECSTBM): top 0 as 1; bottom 0 or above R as R
-abbrev pub askedMargins : Core → Params → Margins
-askedMargins c q = record { top = paramN q; bottom = cond (eqb (param q 1) 0 || ltb (c .rows) (param q 1)) (c .rows) (param q 1) }
+abbrev pub requestedMargins : Core → Params → Margins
+requestedMargins c q = record { top = paramN q; bottom = cond (eqb (param q 1) 0 || ltb (c .rows) (param q 1)) (c .rows) (param q 1) }
 
 -- unless top < bottom they are ignored
 abbrev pub marginsTaken : Core → Params → Bool
-marginsTaken c q = ltb (askedMargins c q .top) (askedMargins c q .bottom)
+marginsTaken c q = ltb (requestedMargins c q .top) (requestedMargins c q .bottom)
 
 -- then cursor home, with the new margins
 abbrev pub setMargins : Core → Params → Decision
-setMargins c q = let d = withMargins c (askedMargins c q) in unedited (withCursor d (home d))
+setMargins c q = let d = withMargins c (requestedMargins c q) in unedited (withCursor d (home d))
 
 -- ! p (DECSTR): these fields from fresh; cursor, tabs, newline and reply width stay
 unfoldable pub softReset : Core → Core
@@ -194,7 +194,14 @@ softReset c =
       cursor = c .cursor;
       margins = f .margins;
       tabs = c .tabs;
-      modes = record { insert = f .modes .insert; newline = c .modes .newline; origin = f .modes .origin; autowrap = f .modes .autowrap; shown = f .modes .shown; eightbit = c .modes .eightbit };
+      modes = record {
+        insert = f .modes .insert;
+        newline = c .modes .newline;
+        origin = f .modes .origin;
+        autowrap = f .modes .autowrap;
+        shown = f .modes .shown;
+        eightbit = c .modes .eightbit;
+      };
       rendition = f .rendition;
       protected = f .protected;
       sets = f .sets;

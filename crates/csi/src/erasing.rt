@@ -1,33 +1,33 @@
 // Control sequences that erase. Margins don't matter.
 use cells::BLANK;
+use core::Core;
+use core::Decision;
+use core::effects::one_edit;
 use device::cursor::Cursor;
 use ground::numbers::capped;
 use ground::numbers::pick_wide;
 use page::Edit;
-use vt::core::Core;
-use vt::core::Decision;
-use vt::effects::one_edit;
 ghost use mathlib.Core.Path.{_≡_};
 ghost use mathlib.Core.Bool.{cond};
 ghost use Prim.Native.Nat.{_+_, _≤_};
 ghost use lib.Dec.{eqb};
-ghost use Rattle.vt.specs.Bounds.{Bounds};
+ghost use Rattle.core.specs.Bounds.{Bounds};
 ghost use Rattle.device.specs.Cursor.{offset};
 ghost use Rattle.csi.specs.Sequences as sequences;
 
-// A run of cells in reading order: it ends before `to`.
-struct Run {
+// A range of cells in reading order: it ends before `to`.
+struct Range {
     from: u16,
     to: u16,
 }
 
 // The cells from `base` to `end` that a selector names: 0 from the cursor's on, 1 up to it, 2 all.
-fn selected(cursor: Cursor, selector: u16, base: u16, end: u16) -> Run
+fn selected(cursor: Cursor, selector: u16, base: u16, end: u16) -> Range
     requires { ⌜ (1 ≤ cursor .row) × (1 ≤ cursor .column) ⌝ }
     ensures { λ r. ⌜ (r .from ≡ cond (eqb selector 0) (offset cursor) base) × (r .to ≡ cond (eqb selector 1) (offset cursor + 1) end) ⌝ }
 {
     let at = cursor.offset();
-    Run {
+    Range {
         from: pick_wide(selector == 0, at, base),
         to: pick_wide(selector == 1, at + 1, end),
     }
@@ -39,12 +39,12 @@ fn erase(core: Core, selector: u16, base: u16, end: u16) -> Decision
     ensures { λ r. ⌜ r ≡ sequences.erased core selector base end sequences.toBlank ⌝ }
 {
     let cursor = core.cursor;
-    let run = selected(cursor, selector, base, end);
+    let range = selected(cursor, selector, base, end);
     one_edit(
         core,
         Edit::Fill {
-            from: run.from,
-            to: run.to,
+            from: range.from,
+            to: range.to,
             word: BLANK,
         },
     )
@@ -56,12 +56,12 @@ fn erase_selectively(core: Core, selector: u16, base: u16, end: u16) -> Decision
     ensures { λ r. ⌜ r ≡ sequences.erased core selector base end sequences.toSpace ⌝ }
 {
     let cursor = core.cursor;
-    let run = selected(cursor, selector, base, end);
+    let range = selected(cursor, selector, base, end);
     one_edit(
         core,
         Edit::SelectiveErase {
-            from: run.from,
-            to: run.to,
+            from: range.from,
+            to: range.to,
         },
     )
 }

@@ -1,16 +1,16 @@
 // Control sequences that insert and delete rows and cells. Outside T to B they are ignored before they come here.
 use cells::BLANK;
+use core::Core;
+use core::Decision;
+use core::effects::one_edit;
+use core::geometry::right_stop;
+use core::geometry::stops_of;
 use ground::numbers::back;
 use ground::numbers::capped;
 use page::Edit;
-use vt::core::Core;
-use vt::core::Decision;
-use vt::effects::one_edit;
-use vt::geometry::right_stop;
-use vt::geometry::stops_of;
 ghost use mathlib.Core.Path.{_≡_};
 ghost use Prim.Native.Nat.{_≤_};
-ghost use Rattle.vt.specs.Bounds.{Bounds};
+ghost use Rattle.core.specs.Bounds.{Bounds};
 ghost use Rattle.csi.specs.Sequences as sequences;
 
 // How many rows there are from the cursor's to B.

@@ -1,20 +1,20 @@
 // Control sequences for tabs, modes, rendition, protection and margins, and the soft reset.
 use cells::Rendition;
+use core::Core;
+use core::Decision;
+use core::Margins;
+use core::Modes;
+use core::effects::unedited;
+use core::fresh::fresh_saved;
+use core::fresh::plain_rendition;
+use core::geometry::home;
 use device::charsets::Sets;
 use device::charsets::SingleShift;
 use parser::params::Params;
-use vt::core::Core;
-use vt::core::Decision;
-use vt::core::Margins;
-use vt::core::Modes;
-use vt::effects::unedited;
-use vt::fresh::fresh_saved;
-use vt::fresh::plain_rendition;
-use vt::geometry::home;
 ghost use mathlib.Core.Path.{_≡_};
 ghost use mathlib.Core.Bool.{true, cond, _||_};
 ghost use lib.Dec.{eqb, ltb};
-ghost use Rattle.vt.specs.Bounds.{Bounds};
+ghost use Rattle.core.specs.Bounds.{Bounds};
 ghost use Rattle.csi.specs.Sequences as sequences;
 
 // TBC: 0 the tab here, 3 all.
@@ -159,17 +159,17 @@ pub fn select_protection(mut core: Core, params: Params) -> Decision
 
 // ---- margins
 
-// The bottom that is asked for: 0 or above R is R.
-fn asked_bottom(rows: u8, asked: u16) -> u8
-    ensures { λ r. ⌜ r ≡ cond (eqb asked 0 || ltb rows asked) rows asked ⌝ }
+// The bottom that is requested: 0 or above R is R.
+fn requested_bottom(rows: u8, requested: u16) -> u8
+    ensures { λ r. ⌜ r ≡ cond (eqb requested 0 || ltb rows requested) rows requested ⌝ }
 {
-    if asked == 0 {
+    if requested == 0 {
         return rows;
     }
-    if (rows as u16) < asked {
+    if (rows as u16) < requested {
         rows
     } else {
-        asked as u8
+        requested as u8
     }
 }
 
@@ -177,7 +177,7 @@ fn asked_bottom(rows: u8, asked: u16) -> u8
 pub fn margins_taken(core: Core, params: Params) -> bool
     ensures { λ r. ⌜ r ≡ sequences.marginsTaken core params ⌝ }
 {
-    let bottom = asked_bottom(core.rows, params.get(1));
+    let bottom = requested_bottom(core.rows, params.get(1));
     params.n() < bottom as u16
 }
 
@@ -186,7 +186,7 @@ pub fn set_margins(mut core: Core, params: Params) -> Decision
     requires { ⌜ sequences.marginsTaken core params ≡ true ⌝ }
     ensures { λ r. ⌜ r ≡ sequences.setMargins core params ⌝ }
 {
-    let bottom = asked_bottom(core.rows, params.get(1));
+    let bottom = requested_bottom(core.rows, params.get(1));
     let top = params.n() as u8;
     let margins = Margins { top, bottom };
     core.margins = margins;

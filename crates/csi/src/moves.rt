@@ -1,16 +1,16 @@
 // Control sequences that move the cursor.
+use core::Core;
+use core::Decision;
+use core::effects::unedited;
+use core::geometry::bottom_stop;
+use core::geometry::first_row;
+use core::geometry::last_row;
+use core::geometry::left_stop;
+use core::geometry::right_stop;
+use core::geometry::top_stop;
 use ground::numbers::capped;
 use ground::numbers::on;
 use ground::numbers::or_one;
-use vt::core::Core;
-use vt::core::Decision;
-use vt::effects::unedited;
-use vt::geometry::bottom_stop;
-use vt::geometry::first_row;
-use vt::geometry::last_row;
-use vt::geometry::left_stop;
-use vt::geometry::right_stop;
-use vt::geometry::top_stop;
 ghost use mathlib.Core.Path.{_≡_};
 ghost use Prim.Native.Nat.{_≤_};
 ghost use Rattle.csi.specs.Sequences as sequences;

@@ -19,18 +19,18 @@ use crate::moves::cursor_left;
 use crate::moves::cursor_position;
 use crate::moves::cursor_right;
 use crate::moves::cursor_up;
+use core::Core;
+use core::Decision;
+use core::effects::unedited;
 use parser::families::is_plain;
 use parser::families::is_private;
 use parser::families::is_protection;
 use parser::families::is_soft_reset;
 use parser::params::Params;
-use vt::core::Core;
-use vt::core::Decision;
-use vt::effects::unedited;
 ghost use mathlib.Core.Path.{_≡_};
 ghost use mathlib.Core.Bool.{true};
 ghost use Rattle.parser.specs.Families.{isPlain};
-ghost use Rattle.vt.specs.Bounds.{Bounds};
+ghost use Rattle.core.specs.Bounds.{Bounds};
 ghost use Rattle.csi.specs.Sequences as sequences;
 
 // With no mark and no intermediate. DECSTBM comes with margins that are taken.

@@ -1,21 +1,24 @@
 -- Demand 1 and what it stands on: states stay whole, replies are short, any bytes are taken without harm, and what an edit changes.
-use mathlib.Core.Path.{_≡_, refl, sym, ap, _∙_, subst}
+use mathlib.Core.Path.{_≡_, refl, sym, ap, _∙_}
 use mathlib.Core.Bool.{Bool, true, false, cond, false≢true}
 use mathlib.Core.List.{List, [], _∷_}
-use mathlib.Core.Logic.{_↔_}
-use Prim.Native.Nat.{ℕ, suc, _+_, _-_, _*_, _≤_, _<_, zero-le, suc-le-suc}
+use mathlib.Core.Logic.{⊎-elim}
+use Prim.Native.Nat.{ℕ, suc, _+_, _-_, _*_, _≤_, _<_, zero-le}
 use native.Mathlib.Nat.{zero-add, lt-of-lt-of-le}
 use native.Mathlib.Omega.{arith}
 use lib.Dec.{eqb, ltb}
 use lib.Pow.{pow-pos, pow-mono}
 use lib.ListN.{length, getD, take, drop, length-append}
 use lib.Seq.{sets, sets-eq, length-sets, take-all, take-at, drop-at}
-use borrow.Author.Tests.{ltb-true, ltb-false, le-leb, eqb-true, eqb-false}
+use borrow.Author.Tests.{ltb-true, ltb-false, eqb-true, eqb-false}
+use Rattle.ground.proofs.ListLaws.{split-lt}
+use Rattle.ground.proofs.TestLaws.{in-between}
+use Rattle.cells.specs.Cells.{bit}
 use Rattle.cells.specs.Sets.{sizeOf, hasBit}
 use Rattle.cells.proofs.BitLaws.{ones-size}
 use Rattle.page.proofs.EditLaws.{every-edit}
-use Rattle.vt.specs.declared.core.Core.{Core}
-use Rattle.vt.specs.Whole.{sized, Whole}
+use Rattle.core.specs.declared.Core.{Core}
+use Rattle.core.specs.Whole.{sized, Whole}
 use Rattle.dispatch.specs.Decide.{decided, sends}
 use Rattle.wholeness.proofs.Wholeness.{sized-rows, facts, fresh-rows, fresh-whole}
 use Rattle.wholeness.proofs.ReplyLength.{sends-short}
@@ -27,13 +30,16 @@ use Rattle.steps.specs.Steps.{stepped, ran, ranCore, sent, readable, screen}
 use Rattle.steps.specs.Whole.{wholeState, WholeState}
 use Rattle.terminal.specs.Start.{Start, fresh, started}
 use Rattle.feeding.specs.Bytes.{readCount}
-use Rattle.terminal.specs.Feed.{Feed, fitting, feedFirst, feedRefused, fed}
+use Rattle.terminal.specs.Feed.{Feed, fitting, feedFirst, fed}
 use Rattle.terminal.specs.Ask.{Ask, asked}
-use Rattle.terminal.specs.Read.{Read, onPage, cellRead}
+use Rattle.terminal.specs.Read.{Read, onPage, readAnswer, readWord, cellRead}
 use Rattle.terminal.specs.CursorRead.{CursorReading, cursorDone, cursorRefused, cursorRead}
-use Rattle.steps.proofs.StepLaws.{ReadyAt, ready-step, step-rows, step-long, ready-ran, ran-core, sent-fits, reads-all, readable-most, readable-fits}
-use Rattle.terminal.proofs.CallLaws.{state-facts, state-tested, fed-broken, fed-size, fed-run, fed-cases, Taken, fed-taken, fed-left, asked-done, asked-broken, asked-whole, started-as, read-as}
-use Rattle.demands.specs.Statements.{Sized, stateIn, FreshWhole, StepWhole, StartWhole, FeedWhole, AskWhole, RepliesShort, NextTooLong, FeedAnswers, FeedExact, FeedRefused, FeedDoes, RestKept, ReplyKept, Progress, StartAnswers, StartExact, AskAnswers, AskExact, ReadAnswers, ReadExact, CursorAnswers, CursorExact, EveryEdit}
+use Rattle.steps.proofs.StepLaws.{ReadyAt, ready-step, step-rows, step-long, ready-ran, ran-core, sent-fits, reads-all, readable-most}
+use Rattle.terminal.proofs.CallLaws.{reads-one, state-facts, state-tested, fed-broken, fed-size, fed-processed, fed-cases, Taken, fed-taken, fed-left}
+use Rattle.terminal.proofs.CallLaws.{asked-done, asked-broken, asked-whole, started-as, read-as}
+use Rattle.demands.specs.Statements.{Sized, stateIn, FreshWhole, StepWhole, StartWhole, FeedWhole, AskWhole, RepliesShort, NextTooLong, FeedAnswers}
+use Rattle.demands.specs.Statements.{FeedExact, FeedRefused, FeedDoes, RestKept, ReplyKept, Progress, StartAnswers, StartExact, AskAnswers, AskExact}
+use Rattle.demands.specs.Statements.{ReadAnswers, ReadExact, CursorAnswers, CursorExact, EveryEdit}
 
 -- ---- states stay whole
 
@@ -59,7 +65,7 @@ pub feed-returns-whole : FeedWhole
 feed-returns-whole s p i o h =
     let t : Taken s p = fed-taken s p i o h in
     let n = readCount s i o in
-    rw (fed-run s p i o (t .whole) (t .size))
+    rw (fed-processed s p i o (t .whole) (t .size))
     (state-tested (stateIn (ran (screen s p) (take n i)))
     (ready-ran (screen s p) (take n i) (record { whole = state-facts s (t .whole); size = t .size }) .whole))
 
@@ -67,7 +73,8 @@ pub ask-returns-whole : AskWhole
 ask-returns-whole s h =
     let e = asked-whole s h in
     let w : WholeState s = state-facts s e in
-    rw (asked-done s e) (state-tested (record { core = s .core; tracked = record { changed = 0 } }) (record { core = w .core; size = w .size; changed = pow-pos (s .core .rows) }))
+    rw (asked-done s e) (state-tested (record { core = s .core; tracked = record { changed = 0 } })
+    (record { core = w .core; size = w .size; changed = pow-pos (s .core .rows) }))
 
 -- ---- replies are short
 
@@ -76,12 +83,23 @@ replies-are-short c b e = sends-short c (facts c e) b
 
 -- ---- demand 1: feeding
 
--- both sides hold, or neither does
-both : {A B : Type 0} → A → B → A ↔ B
-both a b = (λ _. b, λ _. a)
+-- What `omega` is told of a test: its bit, and back. With these, where an answer's number and the tests that led to it are known, `omega exact`
+-- proves each "exactly when" of that answer and of the others.
+of-true : (t : Bool) → t ≡ true → bit t ≡ 1
+of-true t e = ap bit e
 
-neither : {A B : Type 0} → (A → ⊥) → (B → ⊥) → A ↔ B
-neither f g = (λ a. absurd (f a), λ b. absurd (g b))
+of-false : (t : Bool) → t ≡ false → bit t ≡ 0
+of-false t e = ap bit e
+
+to-true : (t : Bool) → bit t ≡ 1 → t ≡ true
+to-true true e = refl
+to-true false e = absurd (omega arith)
+
+to-false : (t : Bool) → bit t ≡ 0 → t ≡ false
+to-false true e = absurd (omega arith)
+to-false false e = refl
+
+ruleset exact = (arith, eqb-true, eqb-false, of-true, of-false, to-true, to-false)
 
 -- where reading stops, the next byte's reply is longer than the room left
 stops-before : (room : ℕ) (c : Core) (bs : List ℕ) → readable room c bs < length bs
@@ -94,98 +112,54 @@ stops-before room c (b ∷ bs) h = go (ltb room (length (sends c b))) refl h (st
     more = readable (room - length (sends c b)) (decided c b .core) bs
 
     go : (t : Bool) → ltb room (length (sends c b)) ≡ t → cond t 0 (suc more) < suc (length bs)
-        → (more < length bs → room - length (sends c b) - length (sent (decided c b .core) (take more bs)) < length (sends (ranCore (decided c b .core) (take more bs)) (getD bs more 0)))
-        → room - length (sent c (take (cond t 0 (suc more)) (b ∷ bs))) < length (sends (ranCore c (take (cond t 0 (suc more)) (b ∷ bs))) (getD (b ∷ bs) (cond t 0 (suc more)) 0))
+        → (more < length bs → room - length (sends c b) - length (sent (decided c b .core) (take more bs)) < length
+        (sends (ranCore (decided c b .core) (take more bs)) (getD bs more 0)))
+        → room - length (sent c (take (cond t 0 (suc more)) (b ∷ bs))) < length
+        (sends (ranCore c (take (cond t 0 (suc more)) (b ∷ bs))) (getD (b ∷ bs) (cond t 0 (suc more)) 0))
     go true e l f = let x = ltb-true room (length (sends c b)) e in omega arith
     go false e l f = let x = f (omega arith) in rw length-append (omega arith)
 
 -- and all that is sent is longer than the room
 sends-more : (room : ℕ) (c : Core) (bs : List ℕ) → readable room c bs < length bs → room < length (sent c bs)
-sends-more room c bs h = go (ltb room (length (sent c bs))) refl
-  where
-    go : (t : Bool) → ltb room (length (sent c bs)) ≡ t → room < length (sent c bs)
-    go true e = ltb-true room (length (sent c bs)) e
-    go false e = omega (arith, reads-all room c bs (ltb-false room (length (sent c bs)) e))
+sends-more room c bs h =
+    ⊎-elim (λ (l : room < length (sent c bs)). l) (λ (l : length (sent c bs) ≤ room). omega (arith, reads-all room c bs l))
+    (split-lt room (length (sent c bs)))
 
 module _ (s : State) (p i o : List ℕ) where
-  answers-refused : (a : Answer) → fed s p i o ≡ feedRefused a s p o → fed s p i o .number ≡ number a
-  answers-refused a e = ap (λ (f : Feed). f .number) e
-
-  feed-broken : wholeState s ≡ false → FeedAnswers s p i o
-  feed-broken e =
-      let n = answers-refused Broken (fed-broken s p i o e) in
-      let not-whole : wholeState s ≡ true → ⊥ = λ w. false≢true (sym e ∙ w) in
-      record {
-        done = neither (λ z. omega arith) (λ x. not-whole (x .0));
-        broken = both n e;
-        wrong-size = neither (λ z. omega arith) (λ x. not-whole (x .0));
-        no-room = neither (λ z. omega arith) (λ x. not-whole (x .0));
-        never = λ z. omega arith;
-        all-read = λ z. omega arith;
-        stopped = λ z. absurd (omega arith);
-      }
-
-  feed-size : wholeState s ≡ true → (Sized s p → ⊥) → FeedAnswers s p i o
-  feed-size e h =
-      let n = answers-refused WrongSize (fed-size s p i o e h) in
-      record {
-        done = neither (λ z. omega arith) (λ x. h (x .1));
-        broken = neither (λ z. omega arith) (λ x. false≢true (sym x ∙ e));
-        wrong-size = both n (e, h);
-        no-room = neither (λ z. omega arith) (λ x. h (x .1));
-        never = λ z. omega arith;
-        all-read = λ z. omega arith;
-        stopped = λ z. absurd (omega arith);
-      }
+  numbered : {f : Feed} → fed s p i o ≡ f → fed s p i o .number ≡ f .number
+  numbered e = ap (λ (f : Feed). f .number) e
 
   module _ (e : wholeState s ≡ true) (h : Sized s p) where
     run : fed s p i o ≡ feedFirst (fitting s i o) (readCount s i o) s p i o
-    run = fed-run s p i o e h
-
-    count : fed s p i o .result .read ≡ readCount s i o
-    count = ap (λ (f : Feed). f .result .read) run
+    run = fed-processed s p i o e h
 
     too-long : readCount s i o < length i → NextTooLong (fed s p i o) i o
     too-long l = rw run (record { more = l; long = rw (ran-core (screen s p) (take (readCount s i o) i)) (stops-before (length o) (s .core) i l) })
 
-    feed-runs : (t : Bool) → ltb (readCount s i o) (length i) ≡ t → FeedAnswers s p i o
-    feed-runs true g =
+    feed-processed : (t : Bool) → ltb (readCount s i o) (length i) ≡ t → FeedAnswers s p i o
+    feed-processed true g =
         let l = ltb-true (readCount s i o) (length i) g in
         let m = sends-more (length o) (s .core) i l in
-        let n : fed s p i o .number ≡ 3 = ap (λ (f : Feed). f .number) run ∙ rw g in
-        record {
-          done = neither (λ z. omega arith) (λ x. let y = x .2 in omega arith);
-          broken = neither (λ z. omega arith) (λ x. false≢true (sym x ∙ e));
-          wrong-size = neither (λ z. omega arith) (λ x. x .1 h);
-          no-room = both n (e, h, m);
-          never = λ z. omega arith;
-          all-read = λ z. omega arith;
-          stopped = λ z. too-long l;
-        }
-    feed-runs false g =
+        let t = too-long l in
+        let n : fed s p i o .number ≡ 3 = numbered run ∙ rw g in
+        omega exact
+    feed-processed false g =
         let l = ltb-false (readCount s i o) (length i) g in
         let m = readable-most (length o) (s .core) i in
-        let fits : length (sent (s .core) i) ≤ length o =
-        subst (λ (l : List ℕ). length (sent (s .core) l) ≤ length o) (take-all (readCount s i o) i (omega arith)) (sent-fits (length o) (s .core) i) in
-        let n : fed s p i o .number ≡ 0 = ap (λ (f : Feed). f .number) run ∙ rw g in
-        record {
-          done = both n (e, h, fits);
-          broken = neither (λ z. omega arith) (λ x. false≢true (sym x ∙ e));
-          wrong-size = neither (λ z. omega arith) (λ x. x .1 h);
-          no-room = neither (λ z. omega arith) (λ x. let y = x .2 in omega arith);
-          never = λ z. omega arith;
-          all-read = λ z. omega (arith, count);
-          stopped = λ z. absurd (omega arith);
-        }
+        let fits = rw (take-all (readCount s i o) i (omega arith)) at (sent-fits (length o) (s .core) i) in
+        let count : fed s p i o .result .read ≡ readCount s i o = ap (λ (f : Feed). f .result .read) run in
+        let n : fed s p i o .number ≡ 0 = numbered run ∙ rw g in
+        omega exact
 
 pub feed-is-exact : FeedExact
 feed-is-exact s p i o =
-    fed-cases s p i o (feed-broken s p i o) (feed-size s p i o) (λ e h. feed-runs s p i o e h (ltb (readCount s i o) (length i)) refl)
+    fed-cases s p i o
+    (λ e. let n = numbered s p i o (fed-broken s p i o e) in omega exact)
+    (λ e h. let n = numbered s p i o (fed-size s p i o e h) in omega exact)
+    (λ e h. feed-processed s p i o e h (ltb (readCount s i o) (length i)) refl)
 
 pub refused-feed-leaves : FeedRefused
-refused-feed-leaves s p i o h =
-    let l = fed-left s p i o h in
-    record { read = l .read; replied = l .replied; state = l .state; page = l .page; reply = l .reply }
+refused-feed-leaves = fed-left
 
 -- the bytes at the front of the buffer are those that were sent
 pub front : (out o : List ℕ) → length out ≤ length o → take (length out) (sets o 0 out) ≡ out
@@ -194,34 +168,24 @@ front out o fits = ap (take (length out)) (sets-eq out o 0 (omega arith)) ∙ ta
 pub feed-does : FeedDoes
 feed-does s p i o h =
     let t : Taken s p = fed-taken s p i o h in
-    rw (fed-run s p i o (t .whole) (t .size)) (record { state = refl; page = refl; bytes = front (sent (s .core) (take (readCount s i o) i)) o (sent-fits (length o) (s .core) i) })
+    rw (fed-processed s p i o (t .whole) (t .size))
+    (record { state = refl; page = refl; bytes = front (sent (s .core) (take (readCount s i o) i)) o (sent-fits (length o) (s .core) i) })
 
-rest-run : (s : State) (p i o : List ℕ) (a : Answer) → RestKept o (feedFirst a (readCount s i o) s p i o)
-rest-run s p i o a =
+rest-processed : (s : State) (p i o : List ℕ) (a : Answer) → RestKept o (feedFirst a (readCount s i o) s p i o)
+rest-processed s p i o a =
     let out = sent (s .core) (take (readCount s i o) i) in
     let fits : length out ≤ length o = sent-fits (length o) (s .core) i in
-    record {
-      long = length-sets o 0 out;
-      within = fits;
-      rest = ap (drop (length out)) (sets-eq out o 0 (omega arith)) ∙ drop-at out (drop (0 + length out) o) (length out) refl
-          ∙ ap (λ (n : ℕ). drop n o) (zero-add (length out));
-    }
+    record { long = length-sets o 0 out; within = fits; rest = rw (sets-eq out o 0 (omega arith), zero-add) (drop-at out (drop (length out) o) _ refl) }
 
 pub reply-rest-kept : ReplyKept
 reply-rest-kept s p i o =
     fed-cases s p i o
     (λ e. rw (fed-broken s p i o e) (record { long = refl; within = zero-le; rest = refl }))
     (λ e h. rw (fed-size s p i o e h) (record { long = refl; within = zero-le; rest = refl }))
-    (λ e h. rw (fed-run s p i o e h) (rest-run s p i o (fitting s i o)))
-
-reads-one : (room : ℕ) (c : Core) (bs : List ℕ) → Whole c → 1 ≤ length bs → 11 ≤ room → 1 ≤ readable room c bs
-reads-one room c [] w l h = absurd (omega arith)
-reads-one room c (b ∷ bs) w l h =
-    let short = sends-short c w b in
-    rw (readable-fits room c b bs (omega arith)) (suc-le-suc zero-le)
+    (λ e h. rw (fed-processed s p i o e h) (rest-processed s p i o (fitting s i o)))
 
 pub progress : Progress
-progress s p i o e h l room = rw (fed-run s p i o e h) (reads-one (length o) (s .core) i (state-facts s e .core) l room)
+progress s p i o e h l room = rw (fed-processed s p i o e h) (reads-one (length o) (s .core) i (state-facts s e .core) l room)
 
 -- ---- demand 1: starting, asking, reading
 
@@ -230,43 +194,30 @@ start-is-exact r p = go (sized r) refl (eqb (length p) (80 * r)) refl
   where
     go : (t : Bool) → sized r ≡ t → (u : Bool) → eqb (length p) (80 * r) ≡ u → StartAnswers r p
     go true e true g =
-        let l = eqb-true (length p) (80 * r) g in
         let q = started-as r p Done (rw (e, g)) in
         let n : started r p .number ≡ 0 = ap (λ (x : Start). x .number) q in
         record {
-          broken = neither (λ z. omega arith) (λ x. false≢true (sym x ∙ e));
-          wrong-size = neither (λ z. omega arith) (λ x. x .1 l);
-          done = both n (e, l);
-          refused = λ x. absurd (false≢true (ap (λ (y : Start). refusal (y .result .answer)) (sym q) ∙ x));
-          begun = λ x. (ap (λ (y : Start). y .result .state) q, ap (λ (y : Start). y .page) q);
+          broken = omega exact;
+          wrong-size = omega exact;
+          done = omega exact;
+          refused = λ x. absurd (false≢true (rw q at x));
+          begun = λ x. rw q (refl, refl);
         }
     go true e false g =
-        let l = eqb-false (length p) (80 * r) g in
         let q = started-as r p WrongSize (rw (e, g)) in
         let n : started r p .number ≡ 2 = ap (λ (x : Start). x .number) q in
-        record {
-          broken = neither (λ z. omega arith) (λ x. false≢true (sym x ∙ e));
-          wrong-size = both n (e, l);
-          done = neither (λ z. omega arith) (λ x. l (x .1));
-          refused = λ x. (ap (λ (y : Start). y .result .state) q, ap (λ (y : Start). y .page) q);
-          begun = λ x. absurd (omega arith);
-        }
+        record { broken = omega exact; wrong-size = omega exact; done = omega exact; refused = λ x. rw q (refl, refl); begun = λ x. absurd (omega arith) }
     go false e u g =
         let q = started-as r p Broken (rw e) in
         let n : started r p .number ≡ 1 = ap (λ (x : Start). x .number) q in
-        record {
-          broken = both n e;
-          wrong-size = neither (λ z. omega arith) (λ x. false≢true (sym e ∙ x .0));
-          done = neither (λ z. omega arith) (λ x. false≢true (sym e ∙ x .0));
-          refused = λ x. (ap (λ (y : Start). y .result .state) q, ap (λ (y : Start). y .page) q);
-          begun = λ x. absurd (omega arith);
-        }
+        record { broken = omega exact; wrong-size = omega exact; done = omega exact; refused = λ x. rw q (refl, refl); begun = λ x. absurd (omega arith) }
 
 -- the rows above R have no bit
 count-64 : (s : State) → wholeState s ≡ true → sizeOf (s .core .rows) (hasBit (s .tracked .changed)) ≡ sizeOf 64 (hasBit (s .tracked .changed))
 count-64 s e =
     let w : WholeState s = state-facts s e in
-    sym (ones-size (s .core .rows) (s .tracked .changed) (w .changed)) ∙ ones-size 64 (s .tracked .changed) (lt-of-lt-of-le (w .changed) (pow-mono {j = 64} (omega (arith, w .core .parts .bounds .count .high))))
+    sym (ones-size (s .core .rows) (s .tracked .changed) (w .changed)) ∙ ones-size 64 (s .tracked .changed)
+    (lt-of-lt-of-le (w .changed) (pow-mono {j = 64} (omega (arith, w .core .parts .bounds .count .high))))
 
 pub ask-is-exact : AskExact
 ask-is-exact s = go (wholeState s) refl
@@ -276,72 +227,34 @@ ask-is-exact s = go (wholeState s) refl
         let q = asked-done s e in
         let n : asked s .number ≡ 0 = ap (λ (x : Ask). x .number) q in
         record {
-          broken = neither (λ z. omega arith) (λ x. false≢true (sym x ∙ e));
-          done = both n e;
-          refused = λ x. absurd (false≢true (ap (λ (y : Ask). refusal (y .result .answer)) (sym q) ∙ x));
+          broken = omega exact;
+          done = omega exact;
+          refused = λ x. absurd (false≢true (rw q at x));
           reported = λ x. rw q (record { rows = refl; count = count-64 s e; core = refl; emptied = refl });
         }
     go false e =
         let q = asked-broken s e in
         let n : asked s .number ≡ 1 = ap (λ (x : Ask). x .number) q in
-        record {
-          broken = both n e;
-          done = neither (λ z. omega arith) (λ x. false≢true (sym e ∙ x));
-          refused = λ x. (ap (λ (y : Ask). y .result .rows) q, ap (λ (y : Ask). y .result .count) q, ap (λ (y : Ask). y .result .state) q);
-          reported = λ x. absurd (omega arith);
-        }
+        record { broken = omega exact; done = omega exact; refused = λ x. rw q (refl, refl, refl); reported = λ x. absurd (omega arith) }
+
+-- what a reading with an answer shows
+record Shown (f : Read) (n : ℕ) (t : Bool) (w : ℕ) : Type 0 where
+  number : f .number ≡ n
+  refused : refusal (f .result .answer) ≡ t
+  word : f .result .word ≡ w
 
 pub read-is-exact : ReadExact
 read-is-exact s p r c = go (wholeState s) refl (eqb (length p) (80 * s .core .rows)) refl (onPage (s .core .rows) r c) refl
   where
-    go : (t : Bool) → wholeState s ≡ t → (u : Bool) → eqb (length p) (80 * s .core .rows) ≡ u → (v : Bool) → onPage (s .core .rows) r c ≡ v → ReadAnswers s p r c
-    go true e true g true k =
-        let l = eqb-true (length p) (80 * s .core .rows) g in
-        let q = read-as s p r c Done (rw (e, g, k)) in
-        let n : cellRead s p r c .number ≡ 0 = ap (λ (x : Read). x .number) q in
-        record {
-          broken = neither (λ z. omega arith) (λ x. false≢true (sym x ∙ e));
-          wrong-size = neither (λ z. omega arith) (λ x. x .1 l);
-          off-page = neither (λ z. omega arith) (λ x. false≢true (sym (x .2) ∙ k));
-          done = both n (e, l, k);
-          refused = λ x. absurd (false≢true (ap (λ (y : Read). refusal (y .result .answer)) (sym q) ∙ x));
-          word = λ x. ap (λ (y : Read). y .result .word) q;
-        }
-    go true e true g false k =
-        let l = eqb-true (length p) (80 * s .core .rows) g in
-        let q = read-as s p r c OffPage (rw (e, g, k)) in
-        let n : cellRead s p r c .number ≡ 4 = ap (λ (x : Read). x .number) q in
-        record {
-          broken = neither (λ z. omega arith) (λ x. false≢true (sym x ∙ e));
-          wrong-size = neither (λ z. omega arith) (λ x. x .1 l);
-          off-page = both n (e, l, k);
-          done = neither (λ z. omega arith) (λ x. false≢true (sym k ∙ x .2));
-          refused = λ x. ap (λ (y : Read). y .result .word) q;
-          word = λ x. absurd (false≢true (sym x ∙ ap (λ (y : Read). refusal (y .result .answer)) q));
-        }
-    go true e false g v k =
-        let l = eqb-false (length p) (80 * s .core .rows) g in
-        let q = read-as s p r c WrongSize (rw (e, g)) in
-        let n : cellRead s p r c .number ≡ 2 = ap (λ (x : Read). x .number) q in
-        record {
-          broken = neither (λ z. omega arith) (λ x. false≢true (sym x ∙ e));
-          wrong-size = both n (e, l);
-          off-page = neither (λ z. omega arith) (λ x. l (x .1));
-          done = neither (λ z. omega arith) (λ x. l (x .1));
-          refused = λ x. ap (λ (y : Read). y .result .word) q;
-          word = λ x. absurd (false≢true (sym x ∙ ap (λ (y : Read). refusal (y .result .answer)) q));
-        }
-    go false e u g v k =
-        let q = read-as s p r c Broken (rw e) in
-        let n : cellRead s p r c .number ≡ 1 = ap (λ (x : Read). x .number) q in
-        record {
-          broken = both n e;
-          wrong-size = neither (λ z. omega arith) (λ x. false≢true (sym e ∙ x .0));
-          off-page = neither (λ z. omega arith) (λ x. false≢true (sym e ∙ x .0));
-          done = neither (λ z. omega arith) (λ x. false≢true (sym e ∙ x .0));
-          refused = λ x. ap (λ (y : Read). y .result .word) q;
-          word = λ x. absurd (false≢true (sym x ∙ ap (λ (y : Read). refusal (y .result .answer)) q));
-        }
+    shown : (a : Answer) → readAnswer s p r c ≡ a → Shown (cellRead s p r c) (number a) (refusal a) (readWord a p r c)
+    shown a q = rw (read-as s p r c a q) (record { number = refl; refused = refl; word = refl })
+
+    go : (t : Bool) → wholeState s ≡ t → (u : Bool) → eqb (length p) (80 * s .core .rows) ≡ u → (v : Bool) → onPage (s .core .rows) r c ≡ v
+        → ReadAnswers s p r c
+    go true e true g true k = let f = shown Done (rw (e, g, k)) in omega exact
+    go true e true g false k = let f = shown OffPage (rw (e, g, k)) in omega exact
+    go true e false g v k = let f = shown WrongSize (rw (e, g)) in omega exact
+    go false e u g v k = let f = shown Broken (rw e) in omega exact
 
 cursor-done : (s : State) → wholeState s ≡ true → cursorRead s ≡ cursorDone s
 unfolding cursorRead
@@ -353,12 +266,8 @@ cursor-broken s e = rw e
 
 cursor-on-page : (c : Core) → Whole c → onPage (c .rows) (c .cursor .row) (c .cursor .column) ≡ true
 cursor-on-page c w =
-    rw (
-      le-leb 1 (c .cursor .row) (w .parts .bounds .cursor .row-low),
-      le-leb (c .cursor .row) (c .rows) (w .parts .bounds .cursor .row-high),
-      le-leb 1 (c .cursor .column) (w .parts .bounds .cursor .column-low),
-      le-leb (c .cursor .column) 80 (w .parts .bounds .cursor .column-high),
-    )
+    let at = w .parts .bounds .cursor in
+    rw (in-between 1 (c .cursor .row) (c .rows) (at .row-low) (at .row-high), in-between 1 (c .cursor .column) 80 (at .column-low) (at .column-high))
 
 pub cursor-is-exact : CursorExact
 cursor-is-exact s = go (wholeState s) refl
@@ -368,24 +277,17 @@ cursor-is-exact s = go (wholeState s) refl
         let q = cursor-done s e in
         let n : cursorRead s .number ≡ 0 = ap (λ (x : CursorReading). x .number) q in
         record {
-          broken = neither (λ z. omega arith) (λ x. false≢true (sym x ∙ e));
-          done = both n e;
+          broken = omega exact;
+          done = omega exact;
           refused = λ x. absurd (omega arith);
           placed = λ x. rw q (record { row = refl; column = refl; wrap = refl; shown = refl; on-page = cursor-on-page (s .core) (state-facts s e .core) });
         }
     go false e =
         let q = cursor-broken s e in
         let n : cursorRead s .number ≡ 1 = ap (λ (x : CursorReading). x .number) q in
-        record {
-          broken = both n e;
-          done = neither (λ z. omega arith) (λ x. false≢true (sym e ∙ x));
-          refused = λ x. ap (λ (y : CursorReading). y .result) q;
-          placed = λ x. absurd (omega arith);
-        }
+        record { broken = omega exact; done = omega exact; refused = λ x. rw q; placed = λ x. absurd (omega arith) }
 
 -- ---- edits
 
 pub edits-are-faithful : EveryEdit
-edits-are-faithful n e p h w =
-    let f = every-edit n e p h w in
-    record { long = f .long; outside = f .kept; reported = f .reported; differing = f .differing }
+edits-are-faithful = every-edit

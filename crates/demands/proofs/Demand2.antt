@@ -1,58 +1,48 @@
 -- Demand 2: feeding in several calls, each done, equals feeding at once. It is the law of a run over appended input.
-use mathlib.Core.Path.{_≡_, refl, sym, ap, ap₂, _∙_, subst}
+use mathlib.Core.Path.{_≡_, refl, sym, ap, ap₂, _∙_}
 use mathlib.Core.List.{List, [], _∷_, _++_}
-use Prim.Native.Nat.{ℕ, _+_, _≤_}
+use Prim.Native.Nat.{ℕ, _+_}
 use native.Mathlib.Omega.{arith}
 use lib.ListN.{length, take}
 use lib.Seq.{take-all}
-use Rattle.vt.specs.declared.core.Core.{Core}
+use Rattle.core.specs.declared.Core.{Core}
 use Rattle.steps.specs.declared.State.{State}
 use Rattle.terminal.specs.Answers.{number}
 use Rattle.steps.specs.Steps.{Screen, ran, ranCore, sent, screen}
 use Rattle.feeding.specs.Bytes.{readCount}
 use Rattle.terminal.specs.Feed.{Feed, fitting, feedFirst, fed}
-use Rattle.steps.proofs.StepLaws.{ran-append, ran-core, sent-append}
-use Rattle.terminal.proofs.CallLaws.{fed-run}
-use Rattle.demands.specs.Statements.{stateIn, Part, sentBy, Several, several, AllDone, inputOf, Demand2}
-use Rattle.demands.proofs.Demand1.{feed-is-exact, reply-rest-kept, front}
+use Rattle.steps.proofs.StepLaws.{ran-append, ran-core, sent-append, sent-fits}
+use Rattle.terminal.proofs.CallLaws.{fed-processed}
+use Rattle.demands.specs.Statements.{stateIn, Part, sentBy, several, AllDone, inputOf, Demand2}
+use Rattle.demands.proofs.Demand1.{feed-is-exact, front}
 
--- ---- one call that is done has read all its input
+-- a page, a state and the bytes sent are those of a run over an input
+record FoldOf (s : State) (p i q : List ℕ) (t : State) (out : List ℕ) : Type 0 where
+  page : q ≡ ran (screen s p) i .page
+  state : t ≡ stateIn (ran (screen s p) i)
+  bytes : out ≡ sent (s .core) i
 
-record ReadAll (s : State) (p i : List ℕ) (f : Feed) : Type 0 where
-  page : f .page ≡ ran (screen s p) i .page
-  state : f .result .state ≡ stateIn (ran (screen s p) i)
-  bytes : sentBy f ≡ sent (s .core) i
-
-read-all : (s : State) (p i o : List ℕ) → fed s p i o .number ≡ 0 → ReadAll s p i (fed s p i o)
+-- one call that is done has read all its input
+read-all : (s : State) (p i o : List ℕ) → fed s p i o .number ≡ 0 → FoldOf s p i (fed s p i o .page) (fed s p i o .result .state) (sentBy (fed s p i o))
 read-all s p i o h =
     let d = feed-is-exact s p i o .done .0 h in
-    let read = feed-is-exact s p i o .all-read h in
-    let run : fed s p i o ≡ feedFirst (fitting s i o) (readCount s i o) s p i o = fed-run s p i o (d .0) (d .1) in
-    let n : readCount s i o ≡ length i = sym (ap (λ (f : Feed). f .result .read) run) ∙ read in
+    let run : fed s p i o ≡ feedFirst (fitting s i o) (readCount s i o) s p i o = fed-processed s p i o (d .0) (d .1) in
+    let n : readCount s i o ≡ length i = sym (ap (λ (f : Feed). f .result .read) run) ∙ feed-is-exact s p i o .all-read h in
     let all : take (readCount s i o) i ≡ i = take-all (readCount s i o) i (omega arith) in
-    let out : List ℕ = sent (s .core) (take (readCount s i o) i) in
-    let fits : length out ≤ length o = subst (λ (f : Feed). f .result .replied ≤ length o) run (reply-rest-kept s p i o .within) in
-    record {
-      page = ap (λ (f : Feed). f .page) run ∙ ap (λ (l : List ℕ). ran (screen s p) l .page) all;
-      state = ap (λ (f : Feed). f .result .state) run ∙ ap (λ (l : List ℕ). stateIn (ran (screen s p) l)) all;
-      bytes = ap sentBy run ∙ front out o fits ∙ ap (sent (s .core)) all;
-    }
+    let sent-all = front (sent (s .core) (take (readCount s i o) i)) o (sent-fits (length o) (s .core) i) in
+    record { page = rw (run, all); state = rw (run, all); bytes = rw run (sent-all ∙ ap (sent (s .core)) all) }
 
 -- ---- several calls
 
 -- what they leave is what one run over all their input leaves
-record RunOf (s : State) (p i : List ℕ) (g : Several) : Type 0 where
-  page : g .page ≡ ran (screen s p) i .page
-  state : g .state ≡ stateIn (ran (screen s p) i)
-  bytes : g .sent ≡ sent (s .core) i
-
-run-of : (s : State) (p : List ℕ) (xs : List Part) → AllDone s p xs → RunOf s p (inputOf xs) (several s p xs)
+fold-of : (s : State) (p : List ℕ) (xs : List Part) → AllDone s p xs
+    → FoldOf s p (inputOf xs) (several s p xs .page) (several s p xs .state) (several s p xs .sent)
 unfolding ran sent
-run-of s p [] h = record { page = refl; state = refl; bytes = refl }
-run-of s p (x ∷ xs) h =
+fold-of s p [] h = record { page = refl; state = refl; bytes = refl }
+fold-of s p (x ∷ xs) h =
     let f : Feed = fed s p (x .input) (x .reply) in
-    let a : ReadAll s p (x .input) f = read-all s p (x .input) (x .reply) (h .0) in
-    let b = run-of (f .result .state) (f .page) xs (h .1) in
+    let a = read-all s p (x .input) (x .reply) (h .0) in
+    let b = fold-of (f .result .state) (f .page) xs (h .1) in
     let mid : screen (f .result .state) (f .page) ≡ ran (screen s p) (x .input) = ap₂ screen (a .state) (a .page) in
     let whole : ran (screen (f .result .state) (f .page)) (inputOf xs) ≡ ran (screen s p) (x .input ++ inputOf xs) =
     ap (λ (d : Screen). ran d (inputOf xs)) mid ∙ sym (ran-append (screen s p) (x .input) (inputOf xs)) in
@@ -60,14 +50,15 @@ run-of s p (x ∷ xs) h =
     record {
       page = b .page ∙ ap (λ (d : Screen). d .page) whole;
       state = b .state ∙ ap stateIn whole;
-      bytes = ap₂ (λ (u v : List ℕ). u ++ v) (a .bytes) (b .bytes ∙ ap (λ (c : Core). sent c (inputOf xs)) core) ∙ sym (sent-append (s .core) (x .input) (inputOf xs));
+      bytes = ap₂ (λ (u v : List ℕ). u ++ v) (a .bytes) (b .bytes ∙ ap (λ (c : Core). sent c (inputOf xs)) core)
+          ∙ sym (sent-append (s .core) (x .input) (inputOf xs));
     }
 
 pub demand-2 : Demand2
 demand-2 s p xs o e h done room =
-    let g = run-of s p xs done in
+    let g = fold-of s p xs done in
     let i = inputOf xs in
-    let fits : length (sent (s .core) i) ≤ length o = subst (λ (l : List ℕ). length l ≤ length o) (g .bytes) room in
+    let fits = rw (g .bytes) at room in
     let answered : fed s p i o .number ≡ 0 = feed-is-exact s p i o .done .1 (e, h, fits) in
     let a = read-all s p i o answered in
     record { answer = answered; page = a .page ∙ sym (g .page); state = a .state ∙ sym (g .state); sent = a .bytes ∙ sym (g .bytes) }

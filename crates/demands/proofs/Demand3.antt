@@ -8,7 +8,7 @@ use Prim.Native.Nat.{ℕ, zero, suc, _+_, _-_, _*_, _%_, _^_, _≤_, _<_}
 use native.Mathlib.Nat.{add-zero, eq-or-lt-of-le, le-of-suc-le-suc, lt-of-lt-of-le, div-eq-of-lt}
 use native.Mathlib.Omega.{arith}
 use lib.Bits.{bitOr}
-use lib.Dec.{ltb, eqb}
+use lib.Dec.{eqb}
 use lib.Pow.{pow-mono}
 use lib.Seq.{drop-drop}
 use lib.ListN.{length, take, drop, length-replicate, take-append-drop}
@@ -21,11 +21,11 @@ use Rattle.page.specs.Edits.{applied, Within}
 use Rattle.cells.proofs.BitLaws.{bits-at, bits-none, bits-lt, bits-or, bits-ext, added-bits, size-ext}
 use Rattle.cells.proofs.RowLaws.{joined-ext, joined-rows}
 use Rattle.page.proofs.EditLaws.{length-applied, unchanged}
-use Rattle.vt.specs.declared.core.Decision.{Decision}
-use Rattle.vt.specs.Whole.{Whole}
-use Rattle.vt.specs.Fresh.{freshCore}
+use Rattle.core.specs.declared.Decision.{Decision}
+use Rattle.core.specs.Whole.{Whole}
+use Rattle.core.specs.Fresh.{freshCore}
 use Rattle.dispatch.specs.Decide.{decided}
-use Rattle.ground.proofs.TestLaws.{or-left, or-right}
+use Rattle.ground.proofs.TestLaws.{or-left, or-right, either}
 use Rattle.wholeness.proofs.Decisions.{Sound}
 use Rattle.wholeness.proofs.Sound.{decided-sound}
 use Rattle.wholeness.proofs.Wholeness.{sized-rows, fresh-rows, fresh-whole}
@@ -35,9 +35,9 @@ use Rattle.steps.specs.Steps.{Screen, Marked, edited, acted, stepped, ran, sent
 use Rattle.terminal.specs.Start.{blankPage, started}
 use Rattle.terminal.specs.Feed.{fed}
 use Rattle.steps.proofs.StepLaws.{edited-page, edited-changed, sent-fits}
-use Rattle.terminal.proofs.CallLaws.{Taken, fed-taken, fed-left, fed-run, run-number, asked-whole, asked-done}
+use Rattle.terminal.proofs.CallLaws.{Taken, fed-taken, fed-left, fed-processed, fitting-number, asked-whole, asked-done}
 use Rattle.demands.specs.Model as M
-use Rattle.demands.specs.Model.{Model, Call, feeding, asking, reading, Seen, feedSeen, rowsSeen, cellSeen, rowList, joins, byte, bytes}
+use Rattle.demands.specs.Model.{Model, Call, feeding, asking, reading, Seen, cellSeen, rowList, joins, byte, bytes}
 use Rattle.demands.specs.World as W
 use Rattle.demands.specs.World.{World, Item, Lent, entire, part, other, isListed, patched, Proper, Given}
 use Rattle.demands.specs.Statements.{Agrees, Demand3}
@@ -76,7 +76,8 @@ module _ (r : ℕ) (m : Model) (copy : List ℕ) (b : ℕ) (K : Kept r m copy) w
   sizes =
       let h0 : length (m .page) ≡ 80 * m .core .rows = K .size ∙ ap (λ (i : ℕ). 80 * i) (sym (K .rows)) in
       let h1 = length-applied (m .core .rows) (decided (m .core) b .first) (m .page) h0 (sound .first) in
-      let h2 = length-applied (m .core .rows) (decided (m .core) b .second) (applied (m .core .rows) (decided (m .core) b .first) (m .page)) h1 (sound .second) in
+      let h2 = length-applied (m .core .rows) (decided (m .core) b .second) (applied (m .core .rows) (decided (m .core) b .first) (m .page)) h1
+      (sound .second) in
       record { before = h0; between = h1; after = h2; first = sound .first; second = sound .second }
 
 -- a step of the code's definition adds the rows that join the model's set
@@ -88,10 +89,10 @@ step-joins n e p s h w =
     (edited-changed n e m h (bits-lt n s) w ∙ added-bits n s (changed p (applied n e p)))
 
 -- what a byte adds to a set, step by step
-joins-once : (n : ℕ) (s : ℕ → Bool) (p q u : List ℕ)
-    → bitOr (bitsOf n s) (bitsOf n (joins (joins (λ k. false) p q) q u)) ≡ bitsOf n (joins (joins s p q) q u)
-joins-once n s p q u =
-    bits-or n s (joins (joins (λ k. false) p q) q u) ∙ bits-ext n _ _ (λ k l. sym (or-assoc (s k) (changed p q k) (changed q u k)))
+joins-once : (r n : ℕ) (s : ℕ → Bool) (p q u : List ℕ) → n ≡ r
+    → bitOr (bitsOf r s) (bitsOf n (joins (joins (λ k. false) p q) q u)) ≡ bitsOf r (joins (joins s p q) q u)
+joins-once r n s p q u e =
+    rw e (bits-or r s (joins (joins (λ k. false) p q) q u) ∙ bits-ext r _ _ (λ k l. sym (or-assoc (s k) (changed p q k) (changed q u k))))
 
 -- a byte of the code's definition is a byte of the model
 byte-screen : (r : ℕ) (m : Model) (copy : List ℕ) (b : ℕ) → Kept r m copy → stepped (screenOf r m) b ≡ screenOf r (byte m b)
@@ -105,12 +106,11 @@ byte-screen r m copy b K =
     let none : ℕ → Bool = λ (k : ℕ). false in
     let start : Marked = record { page = m .page; changed = 0 } in
     let one : edited n (x .first) start ≡ record { page = p; changed = bitsOf n (joins none (m .page) p) } =
-    ap (λ (i : ℕ). edited n (x .first) (record { page = m .page; changed = i })) (sym (bits-none n)) ∙ step-joins n (x .first) (m .page) none (z .before) (z .first) in
+    ap (λ (i : ℕ). edited n (x .first) (record { page = m .page; changed = i })) (sym (bits-none n)) ∙ step-joins n (x .first) (m .page) none (z .before)
+    (z .first) in
     let two : edited n (x .second) (edited n (x .first) start) ≡ record { page = q; changed = bitsOf n (joins (joins none (m .page) p) p q) } =
     ap (edited n (x .second)) one ∙ step-joins n (x .second) p (joins none (m .page) p) (z .between) (z .second) in
-    ap (λ (d : Marked). record { core = x .core; page = d .page; tracked = record { changed = bitOr (bitsOf r (m .rows)) (d .changed) } }) two
-    ∙ ap (λ (i : ℕ). record { core = x .core; page = q; tracked = record { changed = bitOr (bitsOf r (m .rows)) (bitsOf i (joins (joins none (m .page) p) p q)) } }) (K .rows)
-    ∙ ap (λ (i : ℕ). record { core = x .core; page = q; tracked = record { changed = i } }) (joins-once r (m .rows) (m .page) p q)
+    rw (two, joins-once r n (m .rows) (m .page) p q (K .rows))
 
 -- a row outside the set after a step was outside before it, and is as it was
 kept-step : (r : ℕ) (s : ℕ → Bool) (copy p q : List ℕ) → length p ≡ 80 * r → length q ≡ 80 * r
@@ -160,8 +160,7 @@ record Matches (r : ℕ) (w : World) (m : Model) (a b : Seen) : Type 0 where
 row-list-ext : (n : ℕ) (s t : ℕ → Bool) → ((k : ℕ) → k < n → s k ≡ t k) → rowList n s ≡ rowList n t
 unfolding rowList
 row-list-ext zero s t h = refl
-row-list-ext (suc n) s t h =
-    ap₂ (λ (l : List ℕ) (b : Bool). l ++ cond b (suc n ∷ []) []) (row-list-ext n s t (λ k l. h k (omega arith))) (h n (omega arith))
+row-list-ext (suc n) s t h = rw (row-list-ext n s t (λ k l. h k (omega arith)), h n (omega arith))
 
 -- a row past those that a number has room for has no bit in it
 bit-past : (n m k : ℕ) → m < 2 ^ n → n ≤ k → hasBit m k ≡ false
@@ -169,43 +168,39 @@ bit-past n m k l h = ap (λ (x : ℕ). eqb (x % 2) 1) (div-eq-of-lt (lt-of-lt-of
 
 list-past : (n d : ℕ) (s : ℕ → Bool) → ((k : ℕ) → n ≤ k → s k ≡ false) → rowList (n + d) s ≡ rowList n s
 unfolding rowList
-list-past n zero s h = ap (λ (k : ℕ). rowList k s) (add-zero n)
+list-past n zero s h = rw add-zero
 list-past n (suc d) s h =
     let e : n + suc d ≡ suc (n + d) = omega arith in
-    ap (λ (k : ℕ). rowList k s) e ∙ ap (λ (b : Bool). rowList (n + d) s ++ cond b (suc (n + d) ∷ []) []) (h (n + d) (omega arith)) ∙ append-nil (rowList (n + d) s) ∙ list-past n d s h
+    rw (e, h (n + d) (omega arith), append-nil) (list-past n d s h)
 
 -- so the 64 bits list the set's rows
 list-64 : (r : ℕ) (s : ℕ → Bool) → r ≤ 64 → rowList 64 (hasBit (bitsOf r s)) ≡ rowList r s
 list-64 r s l =
     let e : 64 ≡ r + (64 - r) = omega arith in
-    ap (λ (n : ℕ). rowList n (hasBit (bitsOf r s))) e ∙ list-past r (64 - r) (hasBit (bitsOf r s)) (λ k h. bit-past r (bitsOf r s) k (bits-lt r s) h)
-    ∙ row-list-ext r (hasBit (bitsOf r s)) s (bits-at r s)
+    rw (e, list-past r (64 - r) (hasBit (bitsOf r s)) (λ k h. bit-past r (bitsOf r s) k (bits-lt r s) h))
+    (row-list-ext r (hasBit (bitsOf r s)) s (bits-at r s))
 
 listed-last : (xs : List ℕ) (t : Bool) (r k : ℕ) → isListed (xs ++ cond t (r ∷ []) []) k ≡ (isListed xs k || (t && eqb r k))
 listed-last [] true r k = or-false (eqb r k)
 listed-last [] false r k = refl
-listed-last (x ∷ xs) t r k = ap (λ (b : Bool). eqb x k || b) (listed-last xs t r k) ∙ sym (or-assoc (eqb x k) (isListed xs k) (t && eqb r k))
+listed-last (x ∷ xs) t r k = rw (listed-last xs t r k, or-assoc)
 
 listed-above : (n : ℕ) (s : ℕ → Bool) (k : ℕ) → n ≤ k → isListed (rowList n s) (k + 1) ≡ false
 unfolding rowList
 listed-above zero s k l = refl
 listed-above (suc n) s k l =
-    listed-last (rowList n s) (s n) (suc n) (k + 1)
-    ∙ ap₂ (λ (a b : Bool). a || (s n && b)) (listed-above n s k (omega arith)) (ne-eqb (suc n) (k + 1) (omega arith)) ∙ and-false (s n)
+    rw (listed-last (rowList n s) (s n) (suc n) (k + 1), listed-above n s k (omega arith), ne-eqb (suc n) (k + 1) (omega arith)) (and-false (s n))
 
 -- a row of the set is listed, and no other
 listed-row : (n : ℕ) (s : ℕ → Bool) (k : ℕ) → k < n → isListed (rowList n s) (k + 1) ≡ s k
 unfolding rowList
 listed-row zero s k l = absurd (omega arith)
 listed-row (suc n) s k l =
-    listed-last (rowList n s) (s n) (suc n) (k + 1)
-    ∙ ⊎-elim
-    (λ (e : k ≡ n). ap₂ (λ (a b : Bool). a || (s n && b)) (listed-above n s k (omega arith)) (eq-eqb (suc n) (k + 1) (omega arith)) ∙ and-true (s n) ∙ ap s (sym e))
-    (λ (h : k < n). ap₂ (λ (a b : Bool). a || (s n && b)) (listed-row n s k h) (ne-eqb (suc n) (k + 1) (omega arith)) ∙ ap (λ (b : Bool). s k || b) (and-false (s n)) ∙ or-false (s k))
-    (eq-or-lt-of-le (le-of-suc-le-suc l))
-
-ap₃ : {A B C D : Type 0} (f : A → B → C → D) {a a' : A} {b b' : B} {c c' : C} → a ≡ a' → b ≡ b' → c ≡ c' → f a b c ≡ f a' b' c'
-ap₃ f p q r = λ i. f (p i) (q i) (r i)
+    rw (listed-last (rowList n s) (s n) (suc n) (k + 1))
+    (⊎-elim
+    (λ (e : k ≡ n). rw (listed-above n s k (omega arith), eq-eqb (suc n) (k + 1) (omega arith), e) (and-true (s n)))
+    (λ (h : k < n). rw (listed-row n s k h, ne-eqb (suc n) (k + 1) (omega arith), and-false) (or-false (s k)))
+    (eq-or-lt-of-le (le-of-suc-le-suc l)))
 
 module _ (r : ℕ) (m : Model) (copy : List ℕ) (K : Kept r m copy) where
   abbrev own : State
@@ -216,7 +211,7 @@ module _ (r : ℕ) (m : Model) (copy : List ℕ) (K : Kept r m copy) where
       (W.seenOf (worldOf r m copy) own entire (feeding i o)) (M.shows m (feeding i o))
   feeding-matches i o h =
       let t : Taken own (m .page) = fed-taken own (m .page) i o h in
-      let run = fed-run own (m .page) i o (t .whole) (t .size) in
+      let run = fed-processed own (m .page) i o (t .whole) (t .size) in
       let n : ℕ = readable (length o) (m .core) i in
       let out : List ℕ = sent (m .core) (take n i) in
       record {
@@ -225,7 +220,7 @@ module _ (r : ℕ) (m : Model) (copy : List ℕ) (K : Kept r m copy) where
           is = rw (h, run, bytes-screen r m copy (M.taken m i o) K);
           kept = kept-bytes r m copy (M.taken m i o) K;
         };
-        same = rw run (ap₂ (λ (a : ℕ) (l : List ℕ). feedSeen a n l) (run-number (ltb n (length i))) (front out o (sent-fits (length o) (m .core) i)));
+        same = rw (run, fitting-number, front out o (sent-fits (length o) (m .core) i));
       }
 
   -- the rows that an asking lists
@@ -238,11 +233,7 @@ module _ (r : ℕ) (m : Model) (copy : List ℕ) (K : Kept r m copy) where
       joined-ext r (λ k. cond (isListed (rowList r (m .rows)) (k + 1)) (row (m .page) k) (row copy k)) (row (m .page)) each ∙ joined-rows r (m .page) (K .size)
     where
       each : (k : ℕ) → k < r → cond (isListed (rowList r (m .rows)) (k + 1)) (row (m .page) k) (row copy k) ≡ row (m .page) k
-      each k l = ap (λ (t : Bool). cond t (row (m .page) k) (row copy k)) (listed-row r (m .rows) k l) ∙ pick (m .rows k) refl
-        where
-          pick : (t : Bool) → m .rows k ≡ t → cond t (row (m .page) k) (row copy k) ≡ row (m .page) k
-          pick true e = refl
-          pick false e = K .right k l e
+      each k l = rw (listed-row r (m .rows) k l) (either (λ x. x ≡ row (m .page) k) (m .rows k) (λ _. refl) (λ e. K .right k l e))
 
   asking-matches : refusal (W.answerTo (worldOf r m copy) own entire asking) ≡ false
       → Matches r (W.worldAfter (worldOf r m copy) own entire asking) (M.afterCall m asking)
@@ -250,16 +241,20 @@ module _ (r : ℕ) (m : Model) (copy : List ℕ) (K : Kept r m copy) where
   asking-matches h =
       let done = asked-done own (asked-whole own h) in
       let bits : ℕ = bitsOf r (m .rows) in
-      let in-set : (k : ℕ) → k < m .core .rows → hasBit bits k ≡ m .rows k = λ k l. bits-at r (m .rows) k (subst (λ (n : ℕ). k < n) (K .rows) l) in
+      let in-set : (k : ℕ) → k < m .core .rows → hasBit bits k ≡ m .rows k = λ k l. bits-at r (m .rows) k (omega (arith, K .rows)) in
       let rows : List ℕ = rowList 64 (hasBit bits) in
-      let right : patched (m .core .rows) rows copy (m .page) ≡ m .page = ap₂ (λ (n : ℕ) (l : List ℕ). patched n l copy (m .page)) (K .rows) listed-all ∙ patched-right in
+      let right : patched (m .core .rows) rows copy (m .page) ≡ m .page = rw (K .rows, listed-all) patched-right in
       record {
         related = record {
           copy = m .page;
-          is = rw done (ap₂ (λ (x : ℕ) (c : List ℕ). record { page = m .page; state = record { core = m .core; tracked = record { changed = x } }; copy = c }) (sym (bits-none r)) right);
+          is = rw done (ap₂ (λ (x : ℕ) (c : List ℕ). record {
+            page = m .page;
+            state = record { core = m .core; tracked = record { changed = x } };
+            copy = c;
+          }) (sym (bits-none r)) right);
           kept = record { rows = K .rows; whole = K .whole; size = K .size; right = λ k l e. refl };
         };
-        same = rw done (ap₃ rowsSeen (listed-all ∙ ap (λ (n : ℕ). rowList n (m .rows)) (sym (K .rows))) (size-ext (m .core .rows) (hasBit bits) (m .rows) in-set) right);
+        same = rw (done, right, listed-all, size-ext (m .core .rows) (hasBit bits) (m .rows) in-set, K .rows);
       }
 
   reading-matches : (i j : ℕ) → refusal (W.answerTo (worldOf r m copy) own entire (reading i j)) ≡ false
@@ -283,14 +278,12 @@ given-matches r m copy K (reading i j) s l es el h = rw (es, el) (reading-matche
 left-page : (w : World) (l : Lent) (q : List ℕ) → q ≡ W.wordsOf w l → W.pageAfter w l q ≡ w .page
 left-page w entire q e = e
 left-page w (part a n) q e =
-    let p : List ℕ = w .page in
-    ap₂ (λ (x y : List ℕ). take a p ++ (x ++ y)) e (sym (drop-drop n a p)) ∙ ap (λ (x : List ℕ). take a p ++ x) (take-append-drop n (drop a p)) ∙ take-append-drop a p
+    rw (e, ← (drop-drop n a (w .page)), take-append-drop n (drop a (w .page))) (take-append-drop a (w .page))
 left-page w (other p) q e = refl
 
 refused-left : (w : World) (call : Call) (s : State) (l : Lent) → refusal (W.answerTo w s l call) ≡ true → W.worldAfter w s l call ≡ w
 refused-left w (feeding i o) s l h =
-    let left = fed-left s (W.wordsOf w l) i o h .page in
-    rw h (ap (λ (p : List ℕ). record { page = p; state = w .state; copy = w .copy }) (left-page w l (fed s (W.wordsOf w l) i o .page) left))
+    rw (h, left-page w l (fed s (W.wordsOf w l) i o .page) (fed-left s (W.wordsOf w l) i o h .page))
 refused-left w asking s l h = rw h
 refused-left w (reading i j) s l h = refl
 
@@ -300,15 +293,16 @@ record Steps (r : ℕ) (w : World) (m : Model) (x : Item) : Type 0 where
 
 item : (r : ℕ) (m : Model) (w : World) (x : Item) → Related r w m → (W.isRefused w x ≡ false → Given w x) → (t : Bool) → W.isRefused w x ≡ t → Steps r w m x
 item r m w x R G true e = record {
-  related = rw e (subst (λ (v : World). Related r v m) (sym (refused-left w (x .call) (x .state) (x .lent) e)) R);
+  related = rw (e, refused-left w (x .call) (x .state) (x .lent) e) R;
   same = rw e;
 }
 item r m w x R G false e =
     let g = G e in
-    let e' = subst (λ (v : World). refusal (W.answerTo v (x .state) (x .lent) (x .call)) ≡ false) (R .is) e in
-    let A = subst (λ (v : World). Matches r (W.worldAfter v (x .state) (x .lent) (x .call)) (M.afterCall m (x .call)) (W.seenOf v (x .state) (x .lent) (x .call)) (M.shows m (x .call)))
+    let e' = rw (R .is) at e in
+    let A = subst (λ (v : World). Matches r (W.worldAfter v (x .state) (x .lent) (x .call)) (M.afterCall m (x .call))
+    (W.seenOf v (x .state) (x .lent) (x .call)) (M.shows m (x .call)))
     (sym (R .is)) (given-matches r m (R .copy) (R .kept) (x .call) (x .state) (x .lent) (g .newest ∙ ap (λ (v : World). v .state) (R .is)) (g .lends) e') in
-    record { related = rw e (A .related); same = rw e (ap (λ (y : Seen). y ∷ []) (A .same)) }
+    record { related = rw e (A .related); same = rw (e, A .same) }
 
 -- ---- every list
 
@@ -318,7 +312,7 @@ agrees r w m [] R P = record { page = ap (λ (v : World). v .page) (R .is); core
 agrees r w m (x ∷ xs) R P =
     let S = item r m w x R (P .0) (W.isRefused w x) refl in
     let A = agrees r (W.next w x) (M.afterNotice m (W.noticeOf w x)) xs (S .related) (P .1) in
-    record { page = A .page; core = A .core; seen = ap₂ (λ (a b : List Seen). a ++ b) (S .same) (A .seen) }
+    record { page = A .page; core = A .core; seen = rw (S .same, A .seen) }
 
 -- ---- the start
 
@@ -330,7 +324,11 @@ start-related r p h =
     let long : length (blankPage r) ≡ 80 * r = length-replicate (80 * r) blank in
     record {
       copy = blankPage r;
-      is = rw (b .0, b .1) (ap (λ (x : ℕ). record { page = blankPage r; state = record { core = freshCore r; tracked = record { changed = x } }; copy = blankPage r }) (sym (bits-none r)));
+      is = rw (b .0, b .1) (ap (λ (x : ℕ). record {
+        page = blankPage r;
+        state = record { core = freshCore r; tracked = record { changed = x } };
+        copy = blankPage r;
+      }) (sym (bits-none r)));
       kept = record { rows = fresh-rows r; whole = fresh-whole r (sized-rows r (d .0)); size = long; right = λ k l e. refl };
     }
 

@@ -4,10 +4,11 @@ use Prim.Native.Nat.{ℕ, _/_, _%_, _^_, _<_, _-_}
 use native.Mathlib.Omega.{arith}
 use Rattle.cells.specs.Cells.{unpacked}
 use Rattle.cells.proofs.CellLaws.{cell-back, same-word, packed-small, set-at, blank-packed, erased-protected, erased-other, spaced-back, spaced-small}
-use Rattle.demands.specs.Representation.{CellBack, SameWord, UnusedZero, DocumentedBits, BlankWord, SelectiveErasure, TenBytes, TabSet, TabCleared, TabsNone, TabsFresh, TabNext, Decimals}
+use Rattle.demands.specs.Representation.{CellBack, SameWord, UnusedZero, DocumentedBits, BlankWord, SelectiveErasure, TenBytes, TabSet, TabCleared}
+use Rattle.demands.specs.Representation.{TabsNone, TabsFresh, TabNext, Decimals}
 use Rattle.device.proofs.TabLaws as tabs
 use Rattle.ground.proofs.DecimalLaws.{decimal-value, decimal-digits, decimal-first, some-digit, decimal-length}
-use Rattle.vt.specs.Fresh.{freshCore}
+use Rattle.core.specs.Fresh.{freshCore}
 
 -- ---- cells
 

@@ -7,8 +7,8 @@ use lib.Dec.{ltb}
 use lib.ListN.{length, take}
 use Rattle.cells.specs.Sets.{sizeOf, changed}
 use Rattle.page.specs.Edits.{applied}
-use Rattle.vt.specs.declared.core.Core.{Core}
-use Rattle.vt.specs.Fresh.{freshCore}
+use Rattle.core.specs.declared.Core.{Core}
+use Rattle.core.specs.Fresh.{freshCore}
 use Rattle.dispatch.specs.Decide.{decided}
 use Rattle.steps.specs.Steps.{sent, readable}
 use Rattle.terminal.specs.Start.{blankPage}

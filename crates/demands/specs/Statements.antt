@@ -4,14 +4,14 @@ use mathlib.Core.Path.{_≡_}
 use mathlib.Core.Bool.{true, false}
 use mathlib.Core.List.{List, [], _∷_, _++_}
 use mathlib.Core.Logic.{_↔_}
-use Prim.Native.Nat.{ℕ, _+_, _-_, _*_, _≤_, _<_}
+use Prim.Native.Nat.{ℕ, _-_, _*_, _≤_, _<_}
 use lib.ListN.{length, getD, take, drop}
 use Rattle.page.specs.declared.Edit.{Edit}
 use Rattle.cells.specs.Cells.{blank}
-use Rattle.cells.specs.Sets.{sizeOf, hasBit, changed}
-use Rattle.page.specs.Edits.{applied, target, Within}
-use Rattle.vt.specs.declared.core.Core.{Core}
-use Rattle.vt.specs.Whole.{sized, wholeCore}
+use Rattle.cells.specs.Sets.{sizeOf, hasBit}
+use Rattle.page.specs.Edits.{applied, Within, Faithful}
+use Rattle.core.specs.declared.Core.{Core}
+use Rattle.core.specs.Whole.{sized, wholeCore}
 use Rattle.dispatch.specs.Decide.{sends}
 use Rattle.steps.specs.declared.State.{State}
 use Rattle.terminal.specs.declared.Asked.{Asked}
@@ -20,7 +20,7 @@ use Rattle.terminal.specs.Answers.{refusal}
 use Rattle.steps.specs.Steps.{Screen, stepped, ran, sent, screen}
 use Rattle.steps.specs.Whole.{wholeState}
 use Rattle.terminal.specs.Start.{fresh, blankPage, started}
-use Rattle.terminal.specs.Feed.{Feed, fed}
+use Rattle.terminal.specs.Feed.{Feed, fed, Untouched}
 use Rattle.terminal.specs.Ask.{asked}
 use Rattle.terminal.specs.Read.{onPage, cellAt, cellRead}
 use Rattle.terminal.specs.declared.CursorRead.{CursorRead}
@@ -92,13 +92,6 @@ abbrev pub FeedExact : Type 0
 FeedExact = (s : State) (p i o : List ℕ) → FeedAnswers s p i o
 
 -- A refused feeding reads nothing, sends nothing, and leaves page, reply buffer and state as they came.
-pub record Untouched (s : State) (p o : List ℕ) (f : Feed) : Type 0 where
-  pub read : f .result .read ≡ 0
-  pub replied : f .result .replied ≡ 0
-  pub state : f .result .state ≡ s
-  pub page : f .page ≡ p
-  pub reply : f .reply ≡ o
-
 abbrev pub FeedRefused : Type 0
 FeedRefused = (s : State) (p i o : List ℕ) → refusal (fed s p i o .result .answer) ≡ true → Untouched s p o (fed s p i o)
 
@@ -232,14 +225,8 @@ Demand2 = (s : State) (p : List ℕ) (xs : List Part) (o : List ℕ) → wholeSt
 -- ==== Every edit keeps the page's length and each cell outside its target, and the rows that it changes are exactly those where a
 -- cell's word differs.
 
-pub record Edited (n : ℕ) (e : Edit) (p q : List ℕ) : Type 0 where
-  pub long : length q ≡ length p
-  pub outside : (k c : ℕ) → k < n → c < 80 → target e k c ≡ false → getD q (80 * k + c) 0 ≡ getD p (80 * k + c) 0
-  pub reported : (k : ℕ) → k < n → changed p q k ≡ true → (c : ℕ) × (c < 80) × (getD p (80 * k + c) 0 ≡ getD q (80 * k + c) 0 → ⊥)
-  pub differing : (k c : ℕ) → k < n → c < 80 → (getD p (80 * k + c) 0 ≡ getD q (80 * k + c) 0 → ⊥) → changed p q k ≡ true
-
 abbrev pub EveryEdit : Type 0
-EveryEdit = (n : ℕ) (e : Edit) (p : List ℕ) → length p ≡ 80 * n → Within n e → Edited n e p (applied n e p)
+EveryEdit = (n : ℕ) (e : Edit) (p : List ℕ) → length p ≡ 80 * n → Within n e → Faithful n e p (applied n e p)
 
 -- ==== Demand 3. A page of R rows was started. For every list of calls of which each unrefused one was given the newest state and her
 -- page, and a refused one anything, also a part of her page: her page and the newest core are the model's, and what is seen of the calls is what

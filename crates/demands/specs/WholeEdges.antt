@@ -7,127 +7,98 @@ use Prim.Native.Nat.{ℕ, _-_, _^_}
 use lib.ListN.{set}
 use Rattle.cells.specs.declared.Rendition.{Rendition}
 use Rattle.cells.specs.declared.CharSet.the-variants.{SpecialGraphics, Latin1}
-use Rattle.device.specs.declared.cursor.Cursor.{Cursor}
 use Rattle.device.specs.declared.charsets.Register.the-variants.{G0, G3}
 use Rattle.device.specs.declared.charsets.SingleShift.the-variants.{Ss3}
 use Rattle.device.specs.declared.charsets.Sets.{Sets}
 use Rattle.parser.specs.declared.params.Params.{Params}
 use Rattle.parser.specs.declared.phases.Phase.{Phase}
-use Rattle.parser.specs.declared.phases.Phase.the-variants.{Ground, Escape, EscapeOne, EscapeTwo, EscapeIgnore, CsiEntry, CsiParam, CsiOne, CsiTwo, CsiIgnore, StringText}
+use Rattle.parser.specs.declared.phases.Phase.the-variants.{Ground, Escape, EscapeOne, EscapeTwo, EscapeIgnore, CsiEntry, CsiParam, CsiOne, CsiTwo}
+use Rattle.parser.specs.declared.phases.Phase.the-variants.{CsiIgnore, StringText}
 use Rattle.parser.specs.declared.parser.Parser.{Parser}
-use Rattle.vt.specs.declared.core.Margins.{Margins}
-use Rattle.vt.specs.declared.core.Modes.{Modes}
-use Rattle.vt.specs.declared.core.Saved.{Saved}
+use Rattle.core.specs.declared.Core.{Core}
+use Rattle.core.specs.declared.Modes.{Modes}
+use Rattle.core.specs.declared.Saved.{Saved}
 use Rattle.steps.specs.declared.State.{State}
 use Rattle.device.specs.Tabs.{noTabs}
-use Rattle.vt.specs.Fresh.{freshCore}
-use Rattle.vt.specs.Whole.{wholeCore}
+use Rattle.core.specs.Fresh.{freshCore}
+use Rattle.core.specs.Effects.{coreFrom, withCursor, withMargins, withModes, withSaved, savedAt, withParser}
+use Rattle.core.specs.Modes.{withOrigin, withAutowrap}
+use Rattle.core.specs.Whole.{wholeCore}
 use Rattle.steps.specs.Whole.{wholeState}
 use Rattle.terminal.specs.Start.{fresh}
 
 -- ---- one field changed
 
--- a state with these parts in the place of its own
-abbrev withParts : State → Cursor → Margins → Modes → Saved → Parser → State
-withParts s u m o v p =
-    let c = s .core in
-    record {
-      core = record {
-        rows = c .rows;
-        cursor = u;
-        margins = m;
-        tabs = c .tabs;
-        modes = o;
-        rendition = c .rendition;
-        protected = c .protected;
-        sets = c .sets;
-        shift = c .shift;
-        saved = v;
-        parser = p;
-      };
-      tracked = s .tracked;
-    }
-
-abbrev withCursor : State → Cursor → State
-withCursor s u = let c = s .core in withParts s u (c .margins) (c .modes) (c .saved) (c .parser)
-
-abbrev withModes : State → Modes → State
-withModes s o = let c = s .core in withParts s (c .cursor) (c .margins) o (c .saved) (c .parser)
-
-abbrev withSaved : State → Saved → State
-withSaved s v = let c = s .core in withParts s (c .cursor) (c .margins) (c .modes) v (c .parser)
-
-abbrev withParser : State → Parser → State
-withParser s p = let c = s .core in withParts s (c .cursor) (c .margins) (c .modes) (c .saved) p
+abbrev onCore : (Core → Core) → State → State
+onCore f s = record { core = f (s .core); tracked = s .tracked }
 
 abbrev pub row : ℕ → State → State
-row r s = let u = s .core .cursor in withCursor s (record { row = r; column = u .column; wrap = u .wrap })
+row r s = onCore (λ c. withCursor c (record { row = r; column = c .cursor .column; wrap = c .cursor .wrap })) s
 
 abbrev pub column : ℕ → State → State
-column c s = let u = s .core .cursor in withCursor s (record { row = u .row; column = c; wrap = u .wrap })
+column k s = onCore (λ c. withCursor c (record { row = c .cursor .row; column = k; wrap = c .cursor .wrap })) s
 
 abbrev pub wrapDue : State → State
-wrapDue s = let u = s .core .cursor in withCursor s (record { row = u .row; column = u .column; wrap = true })
+wrapDue s = onCore (λ c. withCursor c (record { row = c .cursor .row; column = c .cursor .column; wrap = true })) s
 
 -- T and B
 abbrev pub margins : ℕ → ℕ → State → State
-margins t b s = let c = s .core in withParts s (c .cursor) (record { top = t; bottom = b }) (c .modes) (c .saved) (c .parser)
+margins t b s = onCore (λ c. withMargins c (record { top = t; bottom = b })) s
 
 -- origin on
 abbrev pub origin : State → State
-origin s =
-    let o = s .core .modes in
-    withModes s (record { insert = o .insert; newline = o .newline; origin = true; autowrap = o .autowrap; shown = o .shown; eightbit = o .eightbit })
+origin s = onCore (λ c. withModes c (withOrigin (c .modes) true)) s
 
 -- autowrap on
 abbrev pub autowrap : State → State
-autowrap s =
-    let o = s .core .modes in
-    withModes s (record { insert = o .insert; newline = o .newline; origin = o .origin; autowrap = true; shown = o .shown; eightbit = o .eightbit })
+autowrap s = onCore (λ c. withModes c (withAutowrap (c .modes) true)) s
 
 abbrev pub savedCursor : ℕ → ℕ → Bool → State → State
-savedCursor r c w s =
-    let v = s .core .saved in
-    withSaved s (record { cursor = record { row = r; column = c; wrap = w }; rendition = v .rendition; origin = v .origin; sets = v .sets })
+savedCursor r k w s = onCore (λ c. withSaved c (savedAt (c .saved) (record { row = r; column = k; wrap = w }))) s
 
 abbrev pub savedRow : ℕ → State → State
 savedRow r s = savedCursor r (s .core .saved .cursor .column) (s .core .saved .cursor .wrap) s
 
 abbrev pub savedColumn : ℕ → State → State
-savedColumn c s = savedCursor (s .core .saved .cursor .row) c (s .core .saved .cursor .wrap) s
+savedColumn k s = savedCursor (s .core .saved .cursor .row) k (s .core .saved .cursor .wrap) s
 
 abbrev pub savedWrapDue : State → State
 savedWrapDue s = savedCursor (s .core .saved .cursor .row) (s .core .saved .cursor .column) true s
 
 -- saved with origin on
 abbrev pub savedOrigin : State → State
-savedOrigin s = let v = s .core .saved in withSaved s (record { cursor = v .cursor; rendition = v .rendition; origin = true; sets = v .sets })
+savedOrigin s =
+    let v = s .core .saved in
+    onCore (λ c. withSaved c (record { cursor = v .cursor; rendition = v .rendition; origin = true; sets = v .sets })) s
+
+abbrev otherParser : State → Parser → State
+otherParser s q = onCore (λ c. withParser c q) s
 
 abbrev pub phase : Phase → State → State
 phase p s =
     let q = s .core .parser in
-    withParser s (record { phase = p; mark = q .mark; first = q .first; second = q .second; params = q .params })
+    otherParser s (record { phase = p; mark = q .mark; first = q .first; second = q .second; params = q .params })
 
 abbrev pub mark : ℕ → State → State
 mark x s =
     let q = s .core .parser in
-    withParser s (record { phase = q .phase; mark = x; first = q .first; second = q .second; params = q .params })
+    otherParser s (record { phase = q .phase; mark = x; first = q .first; second = q .second; params = q .params })
 
 -- the first intermediate, and the second
 abbrev pub first : ℕ → State → State
 first x s =
     let q = s .core .parser in
-    withParser s (record { phase = q .phase; mark = q .mark; first = x; second = q .second; params = q .params })
+    otherParser s (record { phase = q .phase; mark = q .mark; first = x; second = q .second; params = q .params })
 
 abbrev pub second : ℕ → State → State
 second x s =
     let q = s .core .parser in
-    withParser s (record { phase = q .phase; mark = q .mark; first = q .first; second = x; params = q .params })
+    otherParser s (record { phase = q .phase; mark = q .mark; first = q .first; second = x; params = q .params })
 
 abbrev withParams : State → Params → State
 withParams s a =
     let q = s .core .parser in
-    withParser s (record { phase = q .phase; mark = q .mark; first = q .first; second = q .second; params = a })
+    otherParser s (record { phase = q .phase; mark = q .mark; first = q .first; second = q .second; params = a })
 
 -- so many separators: one parameter more is kept, 16 at most
 abbrev pub separators : ℕ → State → State
@@ -147,22 +118,9 @@ allElse s =
     let c = s .core in
     let drawn : Rendition = record { bold = true; underline = true; blink = true; reverse = true } in
     let sets : Sets = record { g0 = Latin1; g1 = SpecialGraphics; g2 = Latin1; g3 = Latin1; gl = G3; gr = G0 } in
-    record {
-      core = record {
-        rows = c .rows;
-        cursor = c .cursor;
-        margins = c .margins;
-        tabs = noTabs;
-        modes = record { insert = true; newline = true; origin = c .modes .origin; autowrap = c .modes .autowrap; shown = false; eightbit = true };
-        rendition = drawn;
-        protected = true;
-        sets = sets;
-        shift = Ss3;
-        saved = record { cursor = c .saved .cursor; rendition = drawn; origin = true; sets = sets };
-        parser = c .parser;
-      };
-      tracked = s .tracked;
-    }
+    let modes : Modes = record { insert = true; newline = true; origin = c .modes .origin; autowrap = c .modes .autowrap; shown = false; eightbit = true } in
+    let saved : Saved = record { cursor = c .saved .cursor; rendition = drawn; origin = true; sets = sets } in
+    onCore (λ c. coreFrom (c .rows) (c .cursor) (c .margins) noTabs modes drawn true sets Ss3 saved (c .parser)) s
 
 -- ---- the edges, clause by clause
 

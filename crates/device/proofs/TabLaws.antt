@@ -1,8 +1,9 @@
 -- Tab flags: bit k + 1 of a byte is bit k of its half, so what holds of every bit is shown by halves; a column's flag is one bit of one byte,
 -- and a change of that bit leaves the other flags; the search for the next tab goes column by column.
-use mathlib.Core.Path.{_≡_, refl, sym, ap, _∙_}
+use mathlib.Core.Path.{_≡_, refl, sym, _∙_}
 use mathlib.Core.Bool.{Bool, true, false, cond, not, _&&_, _||_, false≢true}
 use mathlib.Core.List.{[], _∷_}
+use mathlib.Core.Logic.{⊎-elim}
 use Prim.Native.Nat.{ℕ, zero, suc, _+_, _-_, _/_, _%_, _≤_, _<_, _^_}
 use native.Mathlib.Nat.{pow-succ', div-div-eq-div-mul, add-div-right, zero-div}
 use native.Mathlib.Numerals.{add-one}
@@ -13,7 +14,8 @@ use lib.Pow.{pow-pos}
 use lib.Seq.{getD-set-same, getD-set-other}
 use borrow.Author.Tests.{eq-eqb, ne-eqb, eqb-true, eqb-false}
 use Rattle.cells.specs.Sets.{hasBit}
-use Rattle.ground.proofs.TestLaws.{either}
+use Rattle.ground.proofs.TestLaws.{either, at-number}
+use Rattle.ground.proofs.ListLaws.{split-eq}
 use Rattle.device.specs.declared.tabs.Tabs.{Tabs}
 use Rattle.device.specs.Tabs.{tabByte, isTab, withByte, withTab, withoutTab, noTabs, nextAmong, everyEighth, tabsUpTo}
 
@@ -50,11 +52,9 @@ bit-added b (suc k) e (suc j) =
 bit-taken : (b k : ℕ) → hasBit b k ≡ true → (j : ℕ) → hasBit (b - 2 ^ k) j ≡ cond (eqb j k) false (hasBit b j)
 bit-taken b k e j =
     let back : b - 2 ^ k + 2 ^ k ≡ b = omega (arith, weight-there b k e) in
-    let more : b / 2 ^ k ≡ (b - 2 ^ k) / 2 ^ k + 1 = ap (λ (x : ℕ). x / 2 ^ k) (sym back) ∙ add-div-right (b - 2 ^ k) (pow-pos k) in
+    let more : b / 2 ^ k ≡ (b - 2 ^ k) / 2 ^ k + 1 = rw back at (add-div-right (b - 2 ^ k) (pow-pos k)) in
     let gone : hasBit (b - 2 ^ k) k ≡ false = ne-eqb ((b - 2 ^ k) / 2 ^ k % 2) 1 (omega (arith, more, eqb-true (b / 2 ^ k % 2) 1 e)) in
-    either (λ (x : Bool). hasBit (b - 2 ^ k) j ≡ x) (eqb j k)
-    (λ f. ap (hasBit (b - 2 ^ k)) (eqb-true j k f) ∙ gone)
-    (λ f. sym (ap (λ (x : ℕ). hasBit x j) (sym back) ∙ bit-added (b - 2 ^ k) k gone j ∙ rw f))
+    either (λ (x : Bool). hasBit (b - 2 ^ k) j ≡ x) (eqb j k) (λ f. rw (eqb-true j k f) gone) (λ f. sym (rw (back, f) at (bit-added (b - 2 ^ k) k gone j)))
 
 -- ---- the flags of the columns
 
@@ -66,23 +66,19 @@ flag-changed t c b v ten low high bits d ld =
     let here = getD-set-same (t .flags) ((c - 1) / 8) b 0 (omega arith) in
     either (λ (x : Bool). isTab (withByte t c b) d ≡ x) (eqb d c)
     (λ e. rw (eqb-true d c e, here, bits ((c - 1) % 8), eq-eqb ((c - 1) % 8) ((c - 1) % 8) refl))
-    (λ e. either (λ (_ : Bool). isTab (withByte t c b) d ≡ isTab t d) (eqb ((d - 1) / 8) ((c - 1) / 8)) {x = true} {y = true}
-    (λ f.
-    let byte = eqb-true ((d - 1) / 8) ((c - 1) / 8) f in
-    rw (byte, here, bits ((d - 1) % 8), ne-eqb ((d - 1) % 8) ((c - 1) % 8) (omega (arith, byte, eqb-false d c e))))
-    (λ f. rw (getD-set-other (t .flags) ((c - 1) / 8) ((d - 1) / 8) b 0 (eqb-false ((d - 1) / 8) ((c - 1) / 8) f))))
+    (λ e. ⊎-elim
+    (λ byte. rw (byte, here, bits ((d - 1) % 8), ne-eqb ((d - 1) % 8) ((c - 1) % 8) (omega (arith, byte, eqb-false d c e))))
+    (λ other. rw (getD-set-other (t .flags) ((c - 1) / 8) ((d - 1) / 8) b 0 other))
+    (split-eq ((d - 1) / 8) ((c - 1) / 8)))
 
 -- a flag that is already so
 flag-kept : (t : Tabs) (c d : ℕ) (v : Bool) → isTab t c ≡ v → isTab t d ≡ cond (eqb d c) v (isTab t d)
-flag-kept t c d v e = either (λ (x : Bool). isTab t d ≡ x) (eqb d c) (λ f. ap (isTab t) (eqb-true d c f) ∙ e) (λ f. refl)
+flag-kept t c d v e = either (λ (x : Bool). isTab t d ≡ x) (eqb d c) (λ f. rw (eqb-true d c f) e) (λ f. refl)
 
-or-is : (a b : Bool) → cond a true b ≡ (a || b)
-or-is true b = refl
-or-is false b = refl
-
-and-not-is : (a b : Bool) → cond a false b ≡ (not a && b)
-and-not-is true b = refl
-and-not-is false b = refl
+-- set or left, cleared or left: as a test chooses, and as a Boolean
+chosen : (a b : Bool) → (cond a true b ≡ (a || b)) × (cond a false b ≡ (not a && b))
+chosen true b = (refl, refl)
+chosen false b = (refl, refl)
 
 module _ (t : Tabs) (c : ℕ) where
   abbrev Long : Tabs → Type 0
@@ -103,7 +99,7 @@ module _ (t : Tabs) (c : ℕ) where
     tab-set =
         either (λ (x : Tabs). isTab x d ≡ cond (eqb d c) true (isTab t d)) (isTab t c) (flag-kept t c d true)
         (λ e. flag-changed t c _ true ten low high (bit-added (tabByte t c) ((c - 1) % 8) e) d ld)
-        ∙ or-is (eqb d c) (isTab t d)
+        ∙ chosen (eqb d c) (isTab t d) .0
 
     -- TBC 0
     pub tab-cleared : isTab (withoutTab t c) d ≡ (not (eqb d c) && isTab t d)
@@ -111,7 +107,7 @@ module _ (t : Tabs) (c : ℕ) where
     tab-cleared =
         either (λ (x : Tabs). isTab x d ≡ cond (eqb d c) false (isTab t d)) (isTab t c)
         (λ e. flag-changed t c _ false ten low high (bit-taken (tabByte t c) ((c - 1) % 8) e) d ld) (flag-kept t c d false)
-        ∙ and-not-is (eqb d c) (isTab t d)
+        ∙ chosen (eqb d c) (isTab t d) .1
 
 -- TBC 3
 pub tab-none : (d : ℕ) → d ≤ 80 → isTab noTabs d ≡ false
@@ -156,10 +152,7 @@ unfolding nextAmong
 next-first zero t c d l = λ h. absurd (omega arith)
 next-first (suc n) t c d l =
     either (λ (x : ℕ). d < x → isTab t d ≡ false) (isTab t (suc c))
-    (λ e h. absurd (omega arith))
-    (λ e h. either (λ (_ : Bool). isTab t d ≡ false) (eqb d (suc c)) {x = true} {y = true}
-    (λ q. ap (isTab t) (eqb-true d (suc c) q) ∙ e)
-    (λ q. next-first n t (suc c) d (omega (arith, eqb-false d (suc c) q)) h))
+    (λ e h. absurd (omega arith)) (λ e h. at-number (λ x. isTab t x ≡ false) d (suc c) e (λ q. next-first n t (suc c) d (omega (arith, q)) h))
 
 -- where none is set it is the last column
 pub next-last : (n : ℕ) (t : Tabs) (c : ℕ) → isTab t (nextAmong n t c) ≡ false → nextAmong n t c ≡ c + n
@@ -167,5 +160,4 @@ unfolding nextAmong
 next-last zero t c = λ e. omega arith
 next-last (suc n) t c =
     either (λ (x : ℕ). isTab t x ≡ false → x ≡ c + suc n) (isTab t (suc c))
-    (λ e f. absurd (false≢true (sym f ∙ e)))
-    (λ e f. omega (arith, next-last n t (suc c) f))
+    (λ e f. absurd (false≢true (sym f ∙ e))) (λ e f. omega (arith, next-last n t (suc c) f))

@@ -8,7 +8,7 @@ use types.Run.{OneOf, miss}
 use Rattle.parser.specs.declared.parser.Action.{Action}
 use Rattle.parser.specs.declared.parser.Action.the-variants.{Nothing, Character, Substitute, Control, C1Control, EscapeSequence, ControlSequence}
 use Rattle.parser.proofs.parser.Action as action
-use Rattle.vt.specs.declared.core.Core.{Core}
+use Rattle.core.specs.declared.Core.{Core}
 use Rattle.device.specs.declared.sending.Reply.the-variants.{Silent}
 use Rattle.dispatch.specs.Replies.{reply}
 use Rattle.dispatch.specs.Heard.{isIgnored}

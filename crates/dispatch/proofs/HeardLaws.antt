@@ -1,25 +1,25 @@
 -- What is not listed has no function and draws no reply, so the code asks only what is ignored here and now.
 use mathlib.Core.Path.{_≡_, refl, sym, ap, _∙_}
-use mathlib.Core.Bool.{Bool, true, false, cond, not, _&&_, _||_, false≢true}
+use mathlib.Core.Bool.{Bool, true, false, cond, not, _&&_, _||_, false≢true, and-true, and-false}
 use mathlib.Core.List.{List}
 use Prim.Native.Nat.{ℕ}
 use lib.Dec.{eqb}
-use borrow.Author.Tests.{eqb-true, ne-eqb}
+use borrow.Author.Tests.{ne-eqb, not-false}
 use Rattle.parser.specs.declared.params.Params.{Params}
 use Rattle.parser.specs.declared.parser.Action.{Action}
 use Rattle.parser.specs.declared.parser.Action.the-variants.{Nothing, Character, Substitute, Control, C1Control, EscapeSequence, ControlSequence}
 use Rattle.device.specs.declared.sending.Reply.the-variants.{SecondaryAttributes, Silent}
-use Rattle.vt.specs.declared.core.Core.{Core}
+use Rattle.core.specs.declared.Core.{Core}
 use Rattle.vt.specs.Controls.{controlled, c1Controlled}
 use Rattle.vt.specs.Escapes.{escaped}
-use Rattle.vt.specs.Effects.{unedited}
+use Rattle.core.specs.Effects.{unedited}
 use Rattle.parser.specs.Params.{param, member}
 use Rattle.parser.specs.Families.{isPlain, isPrivate, isProtection, isSoftReset}
 use Rattle.csi.specs.Sequences.{marginsTaken, selectProtection, softReset, plainSequence, privateSequence, sequenced}
-use Rattle.ground.proofs.TestLaws.{or-left, or-right, at-number}
+use Rattle.ground.proofs.TestLaws.{or-left, or-right, either, at-number}
 use Rattle.dispatch.specs.Heard.{controls, c1Controls, plainEscapes, names94, listedEscape, plainFinals, privateFinals, isSecondary, listedSequence}
 use Rattle.dispatch.specs.Heard.{isListed, plainIgnored, privateIgnored, ignoredSequence, isIgnored, unlessIgnored, isHeard, heard}
-use Rattle.dispatch.specs.WrapDue.{keepsWrap, clearsWrap, withWrapPolicy}
+use Rattle.dispatch.specs.WrapDue.{clearsWrap}
 use Rattle.dispatch.specs.Replies.{plainReply, privateReply, reply, replyTo}
 use Rattle.dispatch.specs.Decide.{effect, executed}
 
@@ -27,15 +27,7 @@ use Rattle.dispatch.specs.Decide.{effect, executed}
 
 -- a number that is not in a list is none of the list's
 other : (ks : List ℕ) (n : ℕ) → member n ks ≡ false → (k : ℕ) → member k ks ≡ true → eqb n k ≡ false
-other ks n h k e = go (eqb n k) refl
-  where
-    go : (t : Bool) → eqb n k ≡ t → eqb n k ≡ false
-    go true p = absurd (false≢true (sym h ∙ ap (λ (x : ℕ). member x ks) (eqb-true n k p) ∙ e))
-    go false p = p
-
-pub not-false : (b : Bool) → not b ≡ false → b ≡ true
-not-false true e = refl
-not-false false e = sym e
+other ks n h k e = ne-eqb n k (λ p. false≢true (sym h ∙ ap (λ (x : ℕ). member x ks) p ∙ e))
 
 -- two or three tests, none of which holds
 none-of-two : (s a b : Bool) → (s && (a || (b || false))) ≡ false → ((s && a) ≡ false) × ((s && b) ≡ false)
@@ -51,17 +43,11 @@ none-of-three a b c e = (or-left a (b || c) e, or-left b c (or-right a (b || c) 
 
 control-unedited : (c : Core) (b : ℕ) → member b controls ≡ false → controlled c b ≡ unedited c
 unfolding controlled
-control-unedited c b h = rw (o 0x08 refl, o 0x09 refl, o 0x0A refl, o 0x0B refl, o 0x0C refl, o 0x0D refl, o 0x0E refl, o 0x0F refl)
-  where
-    o : (k : ℕ) → member k controls ≡ true → eqb b k ≡ false
-    o = other controls b h
+control-unedited c b h = simp (other controls b h)
 
 c1-unedited : (c : Core) (b : ℕ) → member b c1Controls ≡ false → c1Controlled c b ≡ unedited c
 unfolding c1Controlled
-c1-unedited c b h = rw (o 0x84 refl, o 0x85 refl, o 0x88 refl, o 0x8D refl, o 0x8E refl, o 0x8F refl)
-  where
-    o : (k : ℕ) → member k c1Controls ≡ true → eqb b k ≡ false
-    o = other c1Controls b h
+c1-unedited c b h = simp (other c1Controls b h)
 
 escape-unedited : (c : Core) (first second last : ℕ) → listedEscape first second last ≡ false → escaped c first second last ≡ unedited c
 unfolding escaped
@@ -76,34 +62,23 @@ escape-unedited c first second last =
     (λ n7. at-number P first 0x2D (λ h. rw h)
     (λ n8. at-number P first 0x2E (λ h. rw h)
     (λ n9. at-number P first 0x2F (λ h. rw h)
-    (λ n10 h. rw (ne-eqb first 0 n1, ne-eqb first 0x20 n2, ne-eqb first 0x23 n3, ne-eqb first 0x28 n4, ne-eqb first 0x29 n5, ne-eqb first 0x2A n6)
-    (rw (ne-eqb first 0x2B n7, ne-eqb first 0x2D n8, ne-eqb first 0x2E n9, ne-eqb first 0x2F n10))))))))))))
+    (λ n10 h. simp ne-eqb))))))))))
   where
     P : ℕ → Type 0
     P x = listedEscape x second last ≡ false → escaped c x second last ≡ unedited c
 
     plain : P 0
-    plain h =
-        let o = other plainEscapes last h in
-        rw (o 0x37 refl, o 0x38 refl, o 0x63 refl, o 0x6E refl, o 0x6F refl, o 0x7E refl, o 0x7D refl, o 0x7C refl)
+    plain h = simp (other plainEscapes last h)
 
     unnamed : names94 second last ≡ false
         → ((eqb second 0 && eqb last 0x42) ≡ false) × ((eqb second 0 && eqb last 0x30) ≡ false) × ((eqb second 0x25 && eqb last 0x35) ≡ false)
     unnamed h = none-of-three (eqb second 0 && eqb last 0x42) (eqb second 0 && eqb last 0x30) (eqb second 0x25 && eqb last 0x35) h
 
 plain-unedited : (c : Core) (q : Params) (last : ℕ) → member last plainFinals ≡ false → plainSequence c q last ≡ unedited c
-plain-unedited c q last h =
-    rw (o 0x40 refl, o 0x41 refl, o 0x42 refl, o 0x43 refl, o 0x44 refl, o 0x48 refl, o 0x4A refl, o 0x4B refl, o 0x4C refl)
-    (rw (o 0x4D refl, o 0x50 refl, o 0x58 refl, o 0x66 refl, o 0x67 refl, o 0x68 refl, o 0x6C refl, o 0x6D refl, o 0x72 refl))
-  where
-    o : (k : ℕ) → member k plainFinals ≡ true → eqb last k ≡ false
-    o = other plainFinals last h
+plain-unedited c q last h = simp (other plainFinals last h)
 
 private-unedited : (c : Core) (q : Params) (last : ℕ) → member last privateFinals ≡ false → privateSequence c q last ≡ unedited c
-private-unedited c q last h = rw (o 0x4A refl, o 0x4B refl, o 0x68 refl, o 0x6C refl)
-  where
-    o : (k : ℕ) → member k privateFinals ≡ true → eqb last k ≡ false
-    o = other privateFinals last h
+private-unedited c q last h = simp (other privateFinals last h)
 
 sequence-unedited : (c : Core) (q : Params) (mark first second last : ℕ) → listedSequence mark first second last ≡ false
     → sequenced c q mark first second last ≡ unedited c
@@ -113,7 +88,8 @@ sequence-unedited c q mark first second last =
     (isSecondary mark first second last) (isProtection mark first second last) (isSoftReset mark first second last)
   where
     go : (i j s p r : Bool) → cond i (member last plainFinals) (cond j (member last privateFinals) (cond s true (cond p true r))) ≡ false
-        → cond i (plainSequence c q last) (cond j (privateSequence c q last) (cond p (selectProtection c q) (cond r (unedited (softReset c)) (unedited c)))) ≡ unedited c
+        → cond i (plainSequence c q last) (cond j (privateSequence c q last) (cond p (selectProtection c q) (cond r (unedited (softReset c)) (unedited c))))
+        ≡ unedited c
     go true j s p r h = plain-unedited c q last h
     go false true s p r h = private-unedited c q last h
     go false false true p r h = absurd (false≢true (sym h))
@@ -131,36 +107,21 @@ unlisted-unedited c (ControlSequence mark first second last) h = sequence-unedit
 
 -- so what is not ignored does what it does, listed or not
 pub heard-effect : (c : Core) (a : Action) → isIgnored c a ≡ false → effect c a ≡ effect c (heard c a)
-heard-effect c a e = rw e (go (isListed a) refl)
-  where
-    go : (t : Bool) → isListed a ≡ t → effect c a ≡ effect c (cond (t && true) a Nothing)
-    go true l = refl
-    go false l = unlisted-unedited c a l
+heard-effect c a e =
+    rw e (either (λ (x : Action). effect c a ≡ effect c x) (isListed a && true) (λ l. refl) (λ l. unlisted-unedited c a (rw and-true at l)))
 
 -- and what is ignored does nothing
 pub ignored-unedited : (c : Core) (a : Action) → isIgnored c a ≡ true → unedited c ≡ executed c a
 unfolding executed clearsWrap
-ignored-unedited c a e = rw e (go (isListed a))
-  where
-    go : (t : Bool) → let x = cond (t && false) a Nothing in unedited c ≡ withWrapPolicy (not (keepsWrap (c .parser .params) x)) (effect c x)
-    go true = refl
-    go false = refl
+ignored-unedited c a e = rw (e, and-false)
 
 -- so an action may be taken for nothing first, and then it is not ignored
 pub unignored : (c : Core) (a : Action) → isIgnored c (unlessIgnored c a) ≡ false
-unignored c a = go (isIgnored c a) refl
-  where
-    go : (t : Bool) → isIgnored c a ≡ t → isIgnored c (cond t Nothing a) ≡ false
-    go true e = refl
-    go false e = e
+unignored c a = either (λ (x : Action). isIgnored c x ≡ false) (isIgnored c a) (λ e. refl) (λ e. e)
 
 pub executed-unignored : (c : Core) (a : Action) → executed c (unlessIgnored c a) ≡ executed c a
 unfolding executed clearsWrap
-executed-unignored c a = go (isIgnored c a) refl
-  where
-    go : (t : Bool) → isIgnored c a ≡ t → executed c (cond t Nothing a) ≡ executed c a
-    go true e = ignored-unedited c a e
-    go false e = refl
+executed-unignored c a = either (λ (x : Action). executed c x ≡ executed c a) (isIgnored c a) (λ e. ignored-unedited c a e) (λ e. refl)
 
 -- r that is not ignored has margins that are taken
 pub heard-taken : (c : Core) (a : Action) (mark first second last : ℕ) → isIgnored c a ≡ false → a ≡ ControlSequence mark first second last
@@ -175,7 +136,7 @@ plain-silent : (c : Core) (q : Params) (last : ℕ) → (member last plainFinals
 plain-silent c q last =
     at-number P last 0x63 (λ h. absurd (false≢true (sym h)))
     (λ n. at-number P last 0x6E (λ h. absurd (false≢true (sym h)))
-    (λ m h. rw (ne-eqb last 0x63 n, ne-eqb last 0x6E m)))
+    (λ m h. simp ne-eqb))
   where
     P : ℕ → Type 0
     P x = (member x plainFinals && not (plainIgnored c q x)) ≡ false → plainReply c q x ≡ Silent
@@ -214,8 +175,4 @@ unheard-silent c (ControlSequence mark first second last) h =
 
 pub reply-heard : (c : Core) (a : Action) → reply c a ≡ replyTo c a
 unfolding replyTo
-reply-heard c a = go (isHeard c a) refl
-  where
-    go : (t : Bool) → isHeard c a ≡ t → reply c a ≡ reply c (cond t a Nothing)
-    go true e = refl
-    go false e = unheard-silent c a e
+reply-heard c a = either (λ (x : Action). reply c a ≡ reply c x) (isHeard c a) (λ e. refl) (λ e. unheard-silent c a e)

@@ -12,12 +12,12 @@ use Rattle.parser.specs.declared.phases.Transition.{Transition}
 use Rattle.parser.specs.declared.parser.Parser.{Parser}
 use Rattle.parser.specs.declared.parser.Action.the-variants.{Character}
 use Rattle.parser.specs.declared.parser.Decoded.{Decoded}
-use Rattle.vt.specs.declared.core.Core.{Core}
+use Rattle.core.specs.declared.Core.{Core}
 use Rattle.parser.specs.Parser.{to, transition, inPhase, kept, actionOf, decode}
 use Rattle.ground.specs.Tests.{between}
 use Rattle.vt.specs.Printing.{printed}
 use Rattle.dispatch.specs.WrapDue.{clearsWrap}
-use Rattle.vt.specs.Effects.{withParser}
+use Rattle.core.specs.Effects.{withParser}
 use Rattle.device.specs.declared.sending.Reply.the-variants.{Silent}
 use Rattle.dispatch.specs.Replies.{replyTo}
 use Rattle.dispatch.specs.Decide.{executed, decided}

@@ -8,7 +8,7 @@ use borrow.Author.Tests.{not-true, ne-eqb}
 use Rattle.parser.specs.declared.params.Params.{Params}
 use Rattle.parser.specs.declared.parser.Action.{Action}
 use Rattle.parser.specs.declared.parser.Action.the-variants.{Nothing}
-use Rattle.vt.specs.declared.core.Core.{Core}
+use Rattle.core.specs.declared.Core.{Core}
 use Rattle.parser.specs.Params.{member}
 use Rattle.parser.specs.Families.{isProtection, isSoftReset}
 use Rattle.ground.proofs.TestLaws.{and-left, and-right, at-number}
@@ -51,8 +51,7 @@ escape-clears first second last l =
     (λ n7. at-number P first 0x2D (simp and-false)
     (λ n8. at-number P first 0x2E (simp and-false)
     (λ n9. at-number P first 0x2F (simp and-false)
-    (λ n10. rw (ne-eqb first 0 n1, ne-eqb first 0x23 n2, ne-eqb first 0x20 n3, ne-eqb first 0x28 n4, ne-eqb first 0x29 n5, ne-eqb first 0x2A n6)
-    (rw (ne-eqb first 0x2B n7, ne-eqb first 0x2D n8, ne-eqb first 0x2E n9, ne-eqb first 0x2F n10))))))))))))
+    (λ n10. simp ne-eqb))))))))))
   where
     P : ℕ → Type 0
     P x = ((eqb x 0x23 && (eqb second 0 && eqb last 0x38)) || (eqb x 0 && eqb last 0x63))
@@ -62,7 +61,7 @@ escape-clears first second last l =
 pub private-rest : (q : Params) (last : ℕ) → (last ≡ 0x4A → ⊥) → (last ≡ 0x4B → ⊥) → (last ≡ 0x68 → ⊥) → (last ≡ 0x6C → ⊥)
     → false ≡ (member last privateFinals && not (privateKeeps q last))
 private-rest q last n1 n2 n3 n4 =
-    rw (ne-eqb last 0x4A n1, ne-eqb last 0x4B n2, ne-eqb last 0x68 n3, ne-eqb last 0x6C n4)
+    simp ne-eqb
     (go (eqb last 0x67) (eqb last 0x6D) (eqb last 0x6E) (eqb last 0x63))
   where
     go : (g m n c : Bool) → false ≡ ((n || false) && not (g || (m || (n || (c || false)))))

@@ -3,8 +3,8 @@ use mathlib.Core.List.{List}
 use Prim.Native.Nat.{ℕ}
 use Rattle.parser.specs.declared.parser.Action.{Action}
 use Rattle.parser.specs.declared.parser.Action.the-variants.{Nothing, Character, Substitute, Control, C1Control, EscapeSequence, ControlSequence}
-use Rattle.vt.specs.declared.core.Core.{Core}
-use Rattle.vt.specs.declared.core.Decision.{Decision}
+use Rattle.core.specs.declared.Core.{Core}
+use Rattle.core.specs.declared.Decision.{Decision}
 use Rattle.parser.specs.Parser.{decode}
 use Rattle.vt.specs.Printing.{printed, substituted}
 use Rattle.vt.specs.Controls.{controlled, c1Controlled}
@@ -14,7 +14,7 @@ use Rattle.dispatch.specs.Heard.{heard}
 use Rattle.dispatch.specs.WrapDue.{clearsWrap, withWrapPolicy}
 use Rattle.dispatch.specs.Replies.{replyTo}
 use Rattle.device.specs.ReplyBytes.{replyBytes}
-use Rattle.vt.specs.Effects.{withParser, unedited}
+use Rattle.core.specs.Effects.{withParser, unedited}
 
 -- what an action does, but for wrap due
 abbrev pub effect : Core → Action → Decision

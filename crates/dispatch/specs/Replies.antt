@@ -5,12 +5,12 @@ use lib.Dec.{eqb}
 use Rattle.parser.specs.declared.params.Params.{Params}
 use Rattle.parser.specs.declared.parser.Action.{Action}
 use Rattle.parser.specs.declared.parser.Action.the-variants.{Nothing, Character, Substitute, Control, C1Control, EscapeSequence, ControlSequence}
-use Rattle.vt.specs.declared.core.Core.{Core}
+use Rattle.core.specs.declared.Core.{Core}
 use Rattle.device.specs.declared.sending.Reply.{Reply}
 use Rattle.device.specs.declared.sending.Reply.the-variants.{Silent, PrimaryAttributes, SecondaryAttributes, Status, Position, ExtendedPosition, Printer}
 use Rattle.parser.specs.Params.{param}
 use Rattle.parser.specs.Families.{isPlain, isPrivate}
-use Rattle.vt.specs.Geometry.{firstRow}
+use Rattle.core.specs.Geometry.{firstRow}
 use Rattle.dispatch.specs.Heard.{isSecondary, heard}
 
 -- the cursor's row, counted from T with origin on

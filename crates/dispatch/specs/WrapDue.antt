@@ -7,12 +7,12 @@ use lib.Dec.{eqb}
 use Rattle.parser.specs.declared.params.Params.{Params}
 use Rattle.parser.specs.declared.parser.Action.{Action}
 use Rattle.parser.specs.declared.parser.Action.the-variants.{Nothing, Character, Substitute, Control, C1Control, EscapeSequence, ControlSequence}
-use Rattle.vt.specs.declared.core.Core.{Core}
-use Rattle.vt.specs.declared.core.Decision.{Decision}
+use Rattle.core.specs.declared.Core.{Core}
+use Rattle.core.specs.declared.Decision.{Decision}
 use Rattle.parser.specs.Params.{paramList, member}
 use Rattle.parser.specs.Families.{isPlain, isPrivate, isProtection}
 use Rattle.device.specs.Cursor.{noWrap}
-use Rattle.vt.specs.Effects.{withCursor}
+use Rattle.core.specs.Effects.{withCursor}
 use Rattle.dispatch.specs.Heard.{isSecondary, heard}
 
 -- SO, SI

@@ -2,19 +2,19 @@
 use crate::heard::unless_ignored;
 use crate::wrap::apply_wrap_policy;
 use crate::wrap::clears_wrap;
+use core::Core;
+use core::Decision;
+use core::effects::unedited;
 use csi::sequences::sequence;
 use parser::parser::Action;
 use vt::controls::c1_control;
 use vt::controls::control;
-use vt::core::Core;
-use vt::core::Decision;
-use vt::effects::unedited;
 use vt::escapes::escape;
 use vt::printing::print;
 use vt::printing::substitute;
 ghost use mathlib.Core.Path.{_≡_};
 ghost use mathlib.Core.Bool.{false};
-ghost use Rattle.vt.specs.Bounds.{Bounds};
+ghost use Rattle.core.specs.Bounds.{Bounds};
 ghost use Rattle.dispatch.specs.Heard.{isIgnored};
 ghost use Rattle.dispatch.specs.Decide as decisions;
 

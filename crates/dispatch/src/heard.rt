@@ -1,10 +1,10 @@
 // What is heard: an action that is ignored here and now is nothing. What is not listed does nothing by itself.
+use core::Core;
 use csi::modes::margins_taken;
 use parser::families::is_plain;
 use parser::families::is_private;
 use parser::params::Params;
 use parser::parser::Action;
-use vt::core::Core;
 ghost use mathlib.Core.Path.{_≡_};
 ghost use Rattle.dispatch.specs.Heard as hearing;
 

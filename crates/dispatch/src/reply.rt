@@ -1,16 +1,16 @@
 // What the terminal sends back: which reply an action draws.
+use core::Core;
+use core::geometry::first_row;
 use device::sending::Reply;
 use ground::numbers::back;
 use parser::families::is_plain;
 use parser::families::is_private;
 use parser::params::Params;
 use parser::parser::Action;
-use vt::core::Core;
-use vt::geometry::first_row;
 ghost use mathlib.Core.Path.{_≡_};
 ghost use mathlib.Core.Bool.{cond};
 ghost use lib.Dec.{eqb};
-ghost use Rattle.vt.specs.Bounds.{Bounds};
+ghost use Rattle.core.specs.Bounds.{Bounds};
 ghost use Rattle.device.specs.declared.sending.Reply.the-variants.{Silent, PrimaryAttributes};
 ghost use Rattle.dispatch.specs.Heard.{isSecondary};
 ghost use Rattle.dispatch.specs.Replies.{reportedRow, plainReply, privateReply, sequenceReply, replyTo};

@@ -1,11 +1,11 @@
 // Wrap due: the one policy, over what is heard. The code tests what clears it, which is less than what keeps it.
+use core::Core;
+use core::Decision;
 use parser::families::is_plain;
 use parser::families::is_private;
 use parser::families::is_soft_reset;
 use parser::params::Params;
 use parser::parser::Action;
-use vt::core::Core;
-use vt::core::Decision;
 ghost use mathlib.Core.Path.{_≡_};
 ghost use mathlib.Core.Bool.{false, not, _&&_};
 ghost use Rattle.parser.specs.Params.{member};

@@ -15,8 +15,8 @@ use Rattle.page.specs.Edits.{applied}
 use Rattle.parser.specs.Params.{withDigit, withSeparator}
 use Rattle.parser.specs.Parser.{transition, decode}
 use Rattle.device.specs.Tabs.{withTab, withoutTab, nextAmong}
-use Rattle.vt.specs.Fresh.{freshCore}
-use Rattle.vt.specs.Whole.{wholeCore}
+use Rattle.core.specs.Fresh.{freshCore}
+use Rattle.core.specs.Whole.{wholeCore}
 use Rattle.vt.specs.Printing.{put, printed, substituted}
 use Rattle.vt.specs.Controls.{controlled, c1Controlled}
 use Rattle.vt.specs.Escapes.{escaped}
@@ -131,7 +131,9 @@ begun = record { state = fresh 24; page = blankPage 24 }
 
 -- an example holds
 unfoldable pub holds : List Line → Bool
-unfolding packed unpacked spaced selectivelyErased joined bitsOf added sizeOf applied withDigit withSeparator transition decode withTab withoutTab nextAmong freshCore wholeCore put printed substituted controlled c1Controlled escaped rendered softReset sequenced clearsWrap replyTo digitsIn decimal replyBytes executed decided sends acted stepped ran sent readable wholeState fed asked
+unfolding packed unpacked spaced selectivelyErased joined bitsOf added sizeOf applied withDigit withSeparator transition decode withTab withoutTab
+    nextAmong freshCore wholeCore put printed substituted controlled c1Controlled escaped rendered softReset sequenced clearsWrap replyTo digitsIn
+    decimal replyBytes executed decided sends acted stepped ran sent readable wholeState fed asked
 holds ls = goes begun ls
 
 -- ---- SCOPE 11.1 to 11.10: fresh, R = 24
@@ -198,7 +200,8 @@ cutBetweenCalls = send "\u{1b}[5;7" ∷ send "7H1.10" ∷ text 5 77 "1.10" ∷ c
 
 -- Origin in the extended report, 8-bit replies, and reports outside origin.
 abbrev pub extendedReport : List Line
-extendedReport = send "\u{1b}[6;10r\u{1b}[?6h\u{1b}[2;5H" ∷ query "\u{1b}[?6n" 64 0 5 "\u{1b}[?2;5;1R" ∷ query "\u{1b} G\u{9b}6n" 64 0 6 "\u{9b}2;5R" ∷ query "\u{1b}[?6l\u{1b}[7;80H\u{1b}[6n" 64 0 16 "\u{9b}7;80R" ∷ []
+extendedReport = send "\u{1b}[6;10r\u{1b}[?6h\u{1b}[2;5H" ∷ query "\u{1b}[?6n" 64 0 5 "\u{1b}[?2;5;1R" ∷ query "\u{1b} G\u{9b}6n" 64 0 6 "\u{9b}2;5R"
+    ∷ query "\u{1b}[?6l\u{1b}[7;80H\u{1b}[6n" 64 0 16 "\u{9b}7;80R" ∷ []
 
 -- A byte whose reply does not fit is not applied: the string stays open, and what came before is done.
 abbrev pub stopsBefore : List Line
@@ -210,11 +213,13 @@ scrolled = send "A\r\nA\r\nB" ∷ rows (1 ∷ 2 ∷ 3 ∷ []) ∷ send "\u{1b}[2
 
 -- Selective erase skips protected cells and keeps flags; K does not.
 abbrev pub selective : List Line
-selective = send "\u{1b}[1\"qA\u{1b}[2\"q\u{1b}[1mB\u{1b}[?1K" ∷ words 1 1 (0x2041 ∷ 0x0220 ∷ 0x0020 ∷ []) ∷ rows (1 ∷ []) ∷ send "\u{1b}[?2J" ∷ rows [] ∷ send "\u{1b}[2K" ∷ text 1 1 "   " ∷ rows (1 ∷ []) ∷ []
+selective = send "\u{1b}[1\"qA\u{1b}[2\"q\u{1b}[1mB\u{1b}[?1K" ∷ words 1 1 (0x2041 ∷ 0x0220 ∷ 0x0020 ∷ []) ∷ rows (1 ∷ []) ∷ send "\u{1b}[?2J" ∷ rows []
+    ∷ send "\u{1b}[2K" ∷ text 1 1 "   " ∷ rows (1 ∷ []) ∷ []
 
 -- ESC 8 holds the row to the margins if origin is then on, and restores wrap due only with autowrap.
 abbrev pub restored : List Line
-restored = send "\u{1b}[?6h\u{1b}[20;5H\u{1b}7\u{1b}[5;10r\u{1b}8" ∷ cursor 10 5 false ∷ send "\u{1b}[?7h\u{1b}[?6l\u{1b}[2;80Hx\u{1b}7\u{1b}[H\u{1b}8" ∷ cursor 2 80 true ∷ send "\u{1b}[?7l\u{1b}8" ∷ cursor 2 80 false ∷ []
+restored = send "\u{1b}[?6h\u{1b}[20;5H\u{1b}7\u{1b}[5;10r\u{1b}8" ∷ cursor 10 5 false ∷ send "\u{1b}[?7h\u{1b}[?6l\u{1b}[2;80Hx\u{1b}7\u{1b}[H\u{1b}8"
+    ∷ cursor 2 80 true ∷ send "\u{1b}[?7l\u{1b}8" ∷ cursor 2 80 false ∷ []
 
 -- A mark not in first place, three intermediates, a digit after an intermediate: ignored through the final.
 abbrev pub spoilt : List Line
@@ -226,7 +231,8 @@ manyParameters = send "\u{1b}[0;;;;;;;;;;;;;;;1mA\u{1b}[0;;;;;;;;;;;;;;;;1mB\u{1
 
 -- ESC c: a row that was noted stays noted, though ESC c does not change it; tabs and reply width are fresh.
 abbrev pub resetRules : List Line
-resetRules = send "\u{1b}[5;5Hx\u{8} \u{1b}[6;6Hy" ∷ send "\u{1b}[3g\u{1b} G\u{1b}c" ∷ rows (5 ∷ 6 ∷ []) ∷ send "\u{1b}c" ∷ rows [] ∷ send "\t" ∷ cursor 1 9 false ∷ query "\u{1b}[5n" 64 0 4 "\u{1b}[0n" ∷ []
+resetRules = send "\u{1b}[5;5Hx\u{8} \u{1b}[6;6Hy" ∷ send "\u{1b}[3g\u{1b} G\u{1b}c" ∷ rows (5 ∷ 6 ∷ []) ∷ send "\u{1b}c" ∷ rows [] ∷ send "\t"
+    ∷ cursor 1 9 false ∷ query "\u{1b}[5n" 64 0 4 "\u{1b}[0n" ∷ []
 
 -- The replies of one call share its room; the byte that does not fit is read by the next call.
 abbrev pub roomLeft : List Line
@@ -237,7 +243,8 @@ roomLeft = query "\u{1b}[5n\u{1b}[6nA" 9 3 7 "\u{1b}[0n" ∷ query "nB" 6 0 2 "\
 abbrev pub table : List (List Line)
 table =
     p1 ∷ p2 ∷ p3 ∷ p4 ∷ p5 ∷ p6a ∷ p6b ∷ p7a ∷ p7b ∷ p8 ∷ p9 ∷ p10
-    ∷ edgeOff ∷ edgeOn ∷ cutBetweenCalls ∷ extendedReport ∷ stopsBefore ∷ scrolled ∷ selective ∷ restored ∷ spoilt ∷ manyParameters ∷ resetRules ∷ roomLeft ∷ []
+    ∷ edgeOff ∷ edgeOn ∷ cutBetweenCalls ∷ extendedReport ∷ stopsBefore ∷ scrolled ∷ selective ∷ restored ∷ spoilt ∷ manyParameters ∷ resetRules ∷ roomLeft
+    ∷ []
 
 abbrev pub allHold : List (List Line) → Bool
 allHold [] = true

@@ -7,7 +7,7 @@ use lib.Dec.{ltb}
 use lib.ListN.{length, take}
 use lib.Seq.{sets}
 use Rattle.ground.specs.Writes.{Wrote}
-use Rattle.vt.specs.declared.core.Core.{Core}
+use Rattle.core.specs.declared.Core.{Core}
 use Rattle.dispatch.specs.Decide.{sends}
 use Rattle.steps.specs.declared.State.{State}
 use Rattle.feeding.specs.declared.bytes.Sent.{Sent}

@@ -1,19 +1,19 @@
 // Bytes, one after the other.
+use core::Core;
 use device::sending::reply_len;
 use device::sending::send;
 use dispatch::reply::reply_to;
-use parser::idle::idle_run;
+use idle::skip_idle;
 use parser::parser::Action;
 use steps::State;
 use steps::Tracked;
 use steps::byte::step;
 use steps::characters::print_characters;
-use vt::core::Core;
 ghost use mathlib.Core.Path.{_≡_};
 ghost use Prim.Native.Nat.{_≤_};
 ghost use lib.ListN.{length};
 ghost use Rattle.parser.specs.Parser.{decode};
-ghost use Rattle.vt.specs.Whole.{Whole};
+ghost use Rattle.core.specs.Whole.{Whole};
 ghost use Rattle.steps.specs.Ready.{Ready};
 ghost use Rattle.feeding.specs.Bytes.{ReplySent, bytesFed};
 
@@ -79,7 +79,7 @@ pub fn feed_bytes(state: State, page: &mut [u16], input: &[u8], reply: &mut [u8]
         core.cursor = cursor;
         tracked = printed.tracked;
         let parser = core.parser;
-        let idle = idle_run(parser, input, printed.next);
+        let idle = skip_idle(parser, input, printed.next);
         let parser = idle.parser;
         core.parser = parser;
         i = idle.next;

@@ -1,20 +1,21 @@
 -- Boolean tests: what an `&&`, a `||`, an implication or a `cond` tells.
-use mathlib.Core.Path.{_≡_, refl, sym}
-use mathlib.Core.Bool.{Bool, true, false, cond, _&&_, _||_, false≢true, and-assoc, and-true}
+use mathlib.Core.Path.{_≡_, refl}
+use mathlib.Core.Bool.{Bool, true, false, cond, _&&_, _||_, and-assoc, and-comm, and-true, or-comm}
 use mathlib.Core.List.{List, [], _∷_}
+use mathlib.Core.Logic.{⊎-elim}
 use Prim.Native.Nat.{ℕ, zero, suc, _≤_}
-use lib.Dec.{eqb, leb}
+use lib.Dec.{leb}
 use lib.ListN.{getD}
-use borrow.Author.Tests.{leb-true, le-leb, eqb-true, eqb-false}
+use borrow.Author.Tests.{leb-true, le-leb}
 use Rattle.ground.specs.Tests.{between, implies, all}
+use Rattle.ground.proofs.ListLaws.{split-eq}
 
 pub and-left : (a b : Bool) → (a && b) ≡ true → a ≡ true
 and-left true b e = refl
 and-left false b e = e
 
 pub and-right : (a b : Bool) → (a && b) ≡ true → b ≡ true
-and-right true b e = e
-and-right false b e = absurd (false≢true e)
+and-right a b e = and-left b a (rw (and-comm b a) e)
 
 pub and-both : (a b : Bool) → a ≡ true → b ≡ true → (a && b) ≡ true
 and-both a b p q = rw (p, q)
@@ -28,8 +29,7 @@ or-left true b e = e
 or-left false b e = refl
 
 pub or-right : (a b : Bool) → (a || b) ≡ false → b ≡ false
-or-right true b e = absurd (false≢true (sym e))
-or-right false b e = e
+or-right a b e = or-left b a (rw (or-comm b a) e)
 
 -- nine tests, as the code has them and as the definition has them
 pub nine : (a b c d e f g h i : Bool) → a && b && c && d && e && f && g && h && i ≡ all (a ∷ b ∷ c ∷ d ∷ e ∷ f ∷ g ∷ h ∷ i ∷ [])
@@ -42,8 +42,7 @@ all-at (t ∷ ts) e zero = and-left t (all ts) e
 all-at (t ∷ ts) e (suc k) = all-at ts (and-right t (all ts) e) k
 
 pub implied : (a b : Bool) → implies a b ≡ true → a ≡ true → b ≡ true
-implied true b e h = e
-implied false b e h = absurd (false≢true h)
+implied a b e h = rw h at e
 
 pub implying : (a b : Bool) → (a ≡ true → b ≡ true) → implies a b ≡ true
 implying true b f = f refl
@@ -65,8 +64,4 @@ either P false p q = q refl
 
 -- a number is k, or it is not
 pub at-number : (P : ℕ → Type 0) (n k : ℕ) → P k → ((n ≡ k → ⊥) → P n) → P n
-at-number P n k p q = go (eqb n k) refl
-  where
-    go : (t : Bool) → eqb n k ≡ t → P n
-    go true e = rw (eqb-true n k e) p
-    go false e = q (eqb-false n k e)
+at-number P n k p q = ⊎-elim (λ (e : n ≡ k). rw e p) q (split-eq n k)

@@ -1,3 +1,4 @@
 pub mod Tests
 pub mod Writes
 pub mod Decimals
+pub mod Spans

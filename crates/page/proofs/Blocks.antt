@@ -11,11 +11,12 @@ use lib.ListN.{take, drop, replicate, length-take, length-drop, length-replicate
 use lib.Seq.{paste, paste-zero, getD-take, getD-drop, ext-getD}
 use borrow.Author.Tests.{eq-eqb, ne-eqb, eqb-true}
 use Rattle.cells.specs.Rows.{row}
-use Rattle.page.specs.Edits.{blankRow, overlaid, runStart, runLength, inRange}
+use Rattle.page.specs.Edits.{blankRow, overlaid, rangeStart, rangeLength, inRange}
 use Rattle.page.specs.Writes.{Redone}
 use Rattle.ground.proofs.ListLaws.{split-eq}
 use Rattle.cells.proofs.Differing.{paste-ext}
-use Rattle.page.proofs.Ranges.{split-range, in-range, off-range, of-range, no-range, alike}
+use Rattle.ground.proofs.TestLaws.{either}
+use Rattle.page.proofs.Ranges.{in-range, off-range, of-range, not-in-range, no-range, alike}
 use Rattle.page.proofs.Redoing.{redone-none, redone-old, redone-as, redone-join}
 
 -- ---- a loop over a block
@@ -27,14 +28,12 @@ block-none p k g = redone-none p (inRange k k) g (no-range k)
 pub block-same : (p : List ℕ) (a e : ℕ) (g : ℕ → List ℕ) → ((j : ℕ) → g j ≡ row p j) → Redone p p (inRange a e) g 0
 block-same p a e g same =
     redone-as (block-none p a g) (inRange a e) g
-    (λ j. rw (no-range a j)
-    (⊎-elim
-    (λ (i : (a ≤ j) × (j < e)). rw (in-range a e j (i .0) (i .1)) (sym (same j)))
-    (λ (o : (j < a) ⊎ (e ≤ j)). rw (off-range a e j o))
-    (split-range a e j)))
+    (λ j. rw (no-range a j) (either (λ x. row p j ≡ x) (inRange a e j) (λ _. sym (same j)) (λ _. refl)))
 
-module _ {p q r : List ℕ} {a e k : ℕ} {g f : ℕ → List ℕ} {bits bits' : ℕ} (R : Redone p q (inRange a e) g bits) (S : Redone q r (λ j. eqb j k) f bits') (same : f k ≡ g k) where
-  next : (a' e' : ℕ) → (k < a) ⊎ (e ≤ k) → (a' ≤ k) × (k < e') → ((j : ℕ) → (j ≡ k → ⊥) → inRange a' e' j ≡ inRange a e j) → Redone p r (inRange a' e') g (bitOr bits bits')
+module _ {p q r : List ℕ} {a e k : ℕ} {g f : ℕ → List ℕ} {bits bits' : ℕ} (R : Redone p q (inRange a e) g bits) (S : Redone q r (λ j. eqb j k) f bits')
+    (same : f k ≡ g k) where
+  next : (a' e' : ℕ) → (k < a) ⊎ (e ≤ k) → (a' ≤ k) × (k < e') → ((j : ℕ) → (j ≡ k → ⊥) → inRange a' e' j ≡ inRange a e j) → Redone p r (inRange a' e') g
+      (bitOr bits bits')
   next a' e' off on others =
       redone-join R S (λ j t. rw (eqb-true j k t) (off-range a e k off)) (inRange a' e') g
       (λ j. ⊎-elim
@@ -54,7 +53,8 @@ module _ {p q r : List ℕ} {a e k : ℕ} {g f : ℕ → List ℕ} {bits bits' :
       (λ j ne. alike a e k e j (⊎-elim (λ (b : j < a). inl (omega arith)) (λ (b : e ≤ j). inr b)) (λ b c. (omega arith, c)))
 
 -- after the last turn
-pub block-all : {p q : List ℕ} {a e a' e' : ℕ} {g : ℕ → List ℕ} {bits : ℕ} → Redone p q (inRange a e) g bits → a ≡ a' → e ≡ e' → Redone p q (inRange a' e') g bits
+pub block-all : {p q : List ℕ} {a e a' e' : ℕ} {g : ℕ → List ℕ} {bits : ℕ} → Redone p q (inRange a e) g bits → a ≡ a' → e ≡ e'
+    → Redone p q (inRange a' e') g bits
 block-all {p} {q} {a} {e} {a'} {e'} {g} R ea ee = redone-as R (inRange a' e') g (λ j. ap₂ (λ (x y : ℕ). cond (inRange x y j) (g j) (row p j)) ea ee)
 
 -- a row outside the block is what it was
@@ -91,43 +91,38 @@ filled-row x a z w h =
     getD-take (z - a) (replicate (z - a) w) i 0 (omega arith) ∙ getD-replicate (z - a) i w 0 (omega arith)
     ∙ sym (getD-take (z - a) (drop a (replicate 80 w)) i 0 (omega arith) ∙ getD-drop a (replicate 80 w) i 0 ∙ getD-replicate 80 (a + i) w 0 (omega arith))))
 
--- ---- a run of cells, row by row
+-- ---- a range of cells, row by row
 
 -- row k with its cells of the run made anew: `new` gives their words, by the column where they begin, their number and the row
-abbrev pub inRun : (ℕ → ℕ → List ℕ → List ℕ) → ℕ → ℕ → (ℕ → List ℕ) → ℕ → List ℕ
-inRun new a z f k = paste (f k) (runStart a k) (new (runStart a k) (runLength a z k) (f k)) (runLength a z k)
+abbrev pub overRange : (ℕ → ℕ → List ℕ → List ℕ) → ℕ → ℕ → (ℕ → List ℕ) → ℕ → List ℕ
+overRange new a z f k = paste (f k) (rangeStart a k) (new (rangeStart a k) (rangeLength a z k) (f k)) (rangeLength a z k)
 
-abbrev pub RunDone : (ℕ → ℕ → List ℕ → List ℕ) → ℕ → ℕ → List ℕ → List ℕ → ℕ → ℕ → Type 0
-RunDone new a z p q bits k = Upward (a / 80) ((z + 79) / 80) p (inRun new a z (row p)) q bits k
+abbrev pub RangeDone : (ℕ → ℕ → List ℕ → List ℕ) → ℕ → ℕ → List ℕ → List ℕ → ℕ → ℕ → Type 0
+RangeDone new a z p q bits k = Upward (a / 80) ((z + 79) / 80) p (overRange new a z (row p)) q bits k
 
-module _ (new : ℕ → ℕ → List ℕ → List ℕ) (a z : ℕ) {k : ℕ} {p q : List ℕ} {bits : ℕ} (R : RunDone new a z p q bits k) where
+module _ (new : ℕ → ℕ → List ℕ → List ℕ) (a z : ℕ) {k : ℕ} {p q : List ℕ} {bits : ℕ} (R : RangeDone new a z p q bits k) where
   -- columns x to y of the next row are made anew
-  pub run-next : {r : List ℕ} {x y bits' : ℕ} → k < (z + 79) / 80 → x ≡ runStart a k → y ≡ runStart z k
-      → Redone q r (λ j. eqb j k) (λ j. paste (row q j) x (new x (y - x) (row q j)) (y - x)) bits' → RunDone new a z p r (bitOr bits bits') (k + 1)
-  run-next h ex ey S = up-next R h S (λ old i. paste (old i) (ex i) (new (ex i) (ey i - ex i) (old i)) (ey i - ex i))
+  pub range-next : {r : List ℕ} {x y bits' : ℕ} → k < (z + 79) / 80 → x ≡ rangeStart a k → y ≡ rangeStart z k
+      → Redone q r (λ j. eqb j k) (λ j. paste (row q j) x (new x (y - x) (row q j)) (y - x)) bits' → RangeDone new a z p r (bitOr bits bits') (k + 1)
+  range-next h ex ey S = up-next R h S (λ old i. paste (old i) (ex i) (new (ex i) (ey i - ex i) (old i)) (ey i - ex i))
 
   -- the run touches no other row
-  pub run-all : a ≤ z → (z + 79) / 80 ≤ k → Redone p q (λ j. true) (inRun new a z (row p)) bits
-  run-all h l = redone-as (up-all R l) (λ j. true) (inRun new a z (row p)) each
+  pub range-all : a ≤ z → (z + 79) / 80 ≤ k → Redone p q (λ j. true) (overRange new a z (row p)) bits
+  range-all h l =
+      redone-as (up-all R l) (λ j. true) (overRange new a z (row p))
+      (λ j. either (λ x. x ≡ overRange new a z (row p) j) (inRange (a / 80) ((z + 79) / 80) j) (λ _. refl)
+      (λ t. off j (not-in-range (a / 80) ((z + 79) / 80) j t)))
     where
-      none : (j : ℕ) → (j < a / 80) ⊎ ((z + 79) / 80 ≤ j) → runLength a z j ≡ 0
-      none j = ⊎-elim (λ (b : j < a / 80). omega arith) (λ (b : (z + 79) / 80 ≤ j). omega arith)
-
-      off : (j : ℕ) → (j < a / 80) ⊎ ((z + 79) / 80 ≤ j) → row p j ≡ inRun new a z (row p) j
+      off : (j : ℕ) → (j < a / 80) ⊎ ((z + 79) / 80 ≤ j) → row p j ≡ overRange new a z (row p) j
       off j o =
-          let s : List ℕ = new (runStart a j) (runLength a z j) (row p j) in
-          paste-zero (row p j) (runStart a j) s ∙ ap (paste (row p j) (runStart a j) s) (sym (none j o))
-
-      each : (j : ℕ) → cond (inRange (a / 80) ((z + 79) / 80) j) (inRun new a z (row p) j) (row p j) ≡ inRun new a z (row p) j
-      each j =
-          ⊎-elim
-          (λ (i : (a / 80 ≤ j) × (j < (z + 79) / 80)). rw (in-range (a / 80) ((z + 79) / 80) j (i .0) (i .1)))
-          (λ (o : (j < a / 80) ⊎ ((z + 79) / 80 ≤ j)). rw (off-range (a / 80) ((z + 79) / 80) j o) (off j o))
-          (split-range (a / 80) ((z + 79) / 80) j)
+          let none : rangeLength a z j ≡ 0 = ⊎-elim (λ (b : j < a / 80). omega arith) (λ (b : (z + 79) / 80 ≤ j). omega arith) o in
+          let s : List ℕ = new (rangeStart a j) (rangeLength a z j) (row p j) in
+          paste-zero (row p j) (rangeStart a j) s ∙ ap (paste (row p j) (rangeStart a j) s) (sym none)
 
 -- ---- a scroll: rows of a block that take another row, and then those that blanks enter
 
-module _ (x z : ℕ) (from : ℕ → ℕ) {p q r : List ℕ} {a e a' e' : ℕ} {bits bits' : ℕ} (R : Redone p q (inRange a e) (λ j. overlaid (row p j) x z (row p (from j))) bits)
+module _ (x z : ℕ) (from : ℕ → ℕ) {p q r : List ℕ} {a e a' e' : ℕ} {bits bits' : ℕ}
+    (R : Redone p q (inRange a e) (λ j. overlaid (row p j) x z (row p (from j))) bits)
     (S : Redone q r (inRange a' e') (λ j. overlaid (row q j) x z blankRow) bits') where
   pub scrolled : (t d : ℕ) (test : ℕ → Bool) → ((j : ℕ) → a ≤ j → j < e → (t ≤ j) × (j < d) × (test j ≡ true))
       → ((j : ℕ) → a' ≤ j → j < e' → (t ≤ j) × (j < d) × (test j ≡ false) × ((j < a) ⊎ (e ≤ j)))
@@ -135,22 +130,20 @@ module _ (x z : ℕ) (from : ℕ → ℕ) {p q r : List ℕ} {a e a' e' : ℕ} {
       → Redone p r (λ j. true) (λ j. cond (inRange t d j) (overlaid (row p j) x z (cond (test j) (row p (from j)) blankRow)) (row p j)) (bitOr bits bits')
   scrolled t d test moved entered rest = redone-join R S apart (λ j. true) _ each
     where
-      both : (j : ℕ) → (a' ≤ j) × (j < e') → (t ≤ j) × (j < d) × (test j ≡ false) × ((j < a) ⊎ (e ≤ j))
-      both j i = entered j (i .0) (i .1)
-
       apart : (j : ℕ) → inRange a' e' j ≡ true → inRange a e j ≡ false
-      apart j i = off-range a e j (both j (of-range a' e' j i) .3)
+      apart j i = let b = of-range a' e' j i in off-range a e j (entered j (b .0) (b .1) .3)
+
+      after : ℕ → List ℕ
+      after j = cond (inRange t d j) (overlaid (row p j) x z (cond (test j) (row p (from j)) blankRow)) (row p j)
 
       each : (j : ℕ) → cond (inRange a' e' j) (overlaid (row q j) x z blankRow) (cond (inRange a e j) (overlaid (row p j) x z (row p (from j))) (row p j))
-          ≡ cond (inRange t d j) (overlaid (row p j) x z (cond (test j) (row p (from j)) blankRow)) (row p j)
+          ≡ after j
       each j =
-          ⊎-elim
-          (λ (i : (a' ≤ j) × (j < e')).
-          let b = both j i in
-          rw (in-range a' e' j (i .0) (i .1), in-range t d j (b .0) (b .1), b .2) (ap (λ (y : List ℕ). overlaid y x z blankRow) (block-old R j (b .3))))
-          (λ (o' : (j < a') ⊎ (e' ≤ j)). rw (off-range a' e' j o')
-          (⊎-elim
-          (λ (i : (a ≤ j) × (j < e)). let b = moved j (i .0) (i .1) in rw (in-range a e j (i .0) (i .1), in-range t d j (b .0) (b .1), b .2))
-          (λ (o : (j < a) ⊎ (e ≤ j)). rw (off-range a e j o, off-range t d j (rest j o o')))
-          (split-range a e j)))
-          (split-range a' e' j)
+          either (λ y. y ≡ after j) (inRange a' e' j)
+          (λ i.
+          let m = of-range a' e' j i in
+          let b = entered j (m .0) (m .1) in
+          rw (in-range t d j (b .0) (b .1), b .2, block-old R j (b .3)))
+          (λ o'. either (λ y. y ≡ after j) (inRange a e j)
+          (λ i. let m = of-range a e j i in let b = moved j (m .0) (m .1) in rw (in-range t d j (b .0) (b .1), b .2))
+          (λ o. rw (off-range t d j (rest j (not-in-range a e j o) (not-in-range a' e' j o')))))

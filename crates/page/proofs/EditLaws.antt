@@ -9,7 +9,7 @@ use Rattle.page.specs.declared.Edit.{Edit}
 use Rattle.page.specs.declared.Edit.the-variants.{Keep}
 use Rattle.cells.specs.Rows.{row, joined}
 use Rattle.cells.specs.Sets.{changed}
-use Rattle.page.specs.Edits.{after, applied, target, Within}
+use Rattle.page.specs.Edits.{after, applied, Within, Faithful}
 use Rattle.cells.proofs.Differing.{differs-none, differs-some, differs-apart}
 use Rattle.page.proofs.Parts.{length-after, after-outside}
 use Rattle.cells.proofs.RowLaws.{joined-ext, joined-rows, length-joined, row-joined, rows-are, length-row, cell-of-row}
@@ -21,7 +21,8 @@ unfolding applied
 applied-def n e p h = ap (λ (f : ℕ → List ℕ). joined n (after e f)) (rows-are n p h)
 
 -- a page whose rows are those after an edit is the page after the edit
-pub applied-is : (n : ℕ) (e : Edit) (p q : List ℕ) → length p ≡ 80 * n → length q ≡ 80 * n → ((k : ℕ) → k < n → row q k ≡ after e (row p) k) → q ≡ applied n e p
+pub applied-is : (n : ℕ) (e : Edit) (p q : List ℕ) → length p ≡ 80 * n → length q ≡ 80 * n → ((k : ℕ) → k < n → row q k ≡ after e (row p) k)
+    → q ≡ applied n e p
 applied-is n e p q hp h rows = sym (joined-rows n q h) ∙ joined-ext n (row q) (after e (row p)) rows ∙ sym (applied-def n e p hp)
 
 -- and the page after an edit has those rows
@@ -59,23 +60,14 @@ module _ (n : ℕ) (p q : List ℕ) (k : ℕ) (hp : length p ≡ 80 * n) (hq : l
 
 -- ---- S8
 
--- What is kept and what is reported when an edit takes a page p of n rows to q.
-pub record Faithful (n : ℕ) (e : Edit) (p q : List ℕ) : Type 0 where
-  -- the length is kept
-  pub long : length q ≡ length p
-  -- each cell outside the edit's target keeps its word
-  pub kept : (k c : ℕ) → k < n → c < 80 → target e k c ≡ false → getD q (80 * k + c) 0 ≡ getD p (80 * k + c) 0
-  -- a row is reported exactly if one of its cells has another word
-  pub reported : (k : ℕ) → k < n → changed p q k ≡ true → (c : ℕ) × (c < 80) × (getD p (80 * k + c) 0 ≡ getD q (80 * k + c) 0 → ⊥)
-  pub differing : (k c : ℕ) → k < n → c < 80 → (getD p (80 * k + c) 0 ≡ getD q (80 * k + c) 0 → ⊥) → changed p q k ≡ true
-
--- Every edit that stays on the page keeps the page's length and each cell outside its target, and the rows reported are exactly those where some cell's word differs.
+-- Every edit that stays on the page keeps the page's length and each cell outside its target, and the rows reported are exactly those where some cell's
+-- word differs.
 pub every-edit : (n : ℕ) (e : Edit) (p : List ℕ) → length p ≡ 80 * n → Within n e → Faithful n e p (applied n e p)
 every-edit n e p hp w =
     let hq : length (applied n e p) ≡ 80 * n = length-applied n e p hp w in
     record {
       long = hq ∙ sym hp;
-      kept = λ k c hk hc o.
+      outside = λ k c hk hc o.
           sym (cell-of-row (applied n e p) k c hc)
           ∙ ap (λ (r : List ℕ). getD r c 0) (applied-row n e p hp w k hk)
           ∙ after-outside n e p hp w k hk c hc o

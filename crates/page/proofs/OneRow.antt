@@ -7,7 +7,7 @@ use Prim.Native.Nat.{ℕ, _+_, _-_, _*_, _^_, _≤_, _<_}
 use native.Mathlib.Omega.{arith}
 use lib.Dec.{eqb}
 use lib.ListN.{length, getD, take, drop, set, replicate, length-drop, length-append, length-replicate}
-use lib.Seq.{paste, length-take-le, take-append-add, drop-cons, getD-take}
+use lib.Seq.{paste, length-take-le, drop-cons, getD-take}
 use Rattle.cells.specs.Cells.{bit, blank}
 use Rattle.cells.specs.Rows.{row, differs}
 use Rattle.page.specs.declared.Edit.the-variants.{Put, InsertCells, DeleteCells}
@@ -15,7 +15,7 @@ use Rattle.page.specs.Edits.{inserted, deleted, after}
 use Rattle.cells.specs.Segments.{Pasted}
 use Rattle.page.specs.Writes.{Edited, BlockFits}
 use Rattle.cells.proofs.RowLaws.{length-row}
-use Rattle.page.proofs.Parts.{set-paste, inserted-paste, deleted-paste}
+use Rattle.page.proofs.Parts.{take-entered, set-paste, inserted-paste, deleted-paste}
 use Rattle.cells.proofs.Differing.{paste-ext}
 use Rattle.cells.proofs.RowParts.{part-of-row}
 use Rattle.page.proofs.Redoing.{redone-part, redone-as}
@@ -23,9 +23,11 @@ use Rattle.cells.proofs.Beside.{both-long, first, second, neither, both-flagged
 
 -- ---- cells that move within a row
 
-module _ {p q r : List ℕ} {k c e n at : ℕ} {flag flag' : Bool} {bits : ℕ} (B : BlockFits p k (k + 1) c e) (h : n ≤ e - c) (place : at ≡ 80 * k + c) (eb : bits ≡ bit (flag || flag') * 2 ^ k) where
+module _ {p q r : List ℕ} {k c e n at : ℕ} {flag flag' : Bool} {bits : ℕ} (B : BlockFits p k (k + 1) c e) (h : n ≤ e - c) (place : at ≡ 80 * k + c)
+    (eb : bits ≡ bit (flag || flag') * 2 ^ k) where
   -- they go right, and then a word enters on the left
-  pub insert-edited : (w : ℕ) → Pasted p q (at + n) (drop (at) p) (e - c - n) flag → Pasted q r (at) (replicate n w) n flag' → Edited (InsertCells k c e n w) p r bits
+  pub insert-edited : (w : ℕ) → Pasted p q (at + n) (drop (at) p) (e - c - n) flag → Pasted q r (at) (replicate n w) n flag'
+      → Edited (InsertCells k c e n w) p r bits
   insert-edited w P Q =
       let x : List ℕ = row p k in
       let lp : length (replicate n w) ≡ n = length-replicate n w in
@@ -43,17 +45,16 @@ module _ {p q r : List ℕ} {k c e n at : ℕ} {flag flag' : Bool} {bits : ℕ} 
       (λ (b : i < at). neither P Q h1 s1 h2 s2 apart i (inl (omega arith)) (inl b))
       (λ (b : at + (e - c) ≤ i). neither P Q h1 s1 h2 s2 apart i (inr (omega arith)) (inr (omega arith))))
       (both-flagged P Q h1 s1 h2 s2 apart) in
-      let taken : (y : List ℕ) → take (e - c) (replicate n w ++ y) ≡ replicate n w ++ take (e - c - n) y =
-      λ y. ap (λ (i : ℕ). take i (replicate n w ++ y)) (all ∙ ap (λ (i : ℕ). i + (e - c - n)) (sym lp)) ∙ take-append-add (replicate n w) y (e - c - n) in
       redone-as
       (redone-part B (simp (length-append, length-replicate) (omega arith)) place parts eb (λ j. inserted (row p j) c e n w)
       (paste-ext x c (replicate n w ++ drop at p) (replicate n w ++ drop c x) (e - c)
-      (taken (drop at p) ∙ ap (λ (l : List ℕ). replicate n w ++ l) (ap (λ (i : ℕ). take (e - c - n) (drop i p)) place ∙ sym (part-of-row p k c (e - c - n) (omega arith))) ∙ sym (taken (drop c x)))
+      (rw (take-entered n w (e - c) (drop at p) h, take-entered n w (e - c) (drop c x) h, place, part-of-row p k c (e - c - n) (omega arith)))
       ∙ sym (inserted-paste x c e n (omega arith) h w)))
       (λ j. true) (after (InsertCells k c e n w) (row p)) (λ j. refl)
 
   -- they go left, and then blanks enter on the right
-  pub delete-edited : Pasted p q (at) (drop (at + n) p) (e - c - n) flag → Pasted q r (at + (e - c - n)) (replicate n blank) n flag' → Edited (DeleteCells k c e n) p r bits
+  pub delete-edited : Pasted p q (at) (drop (at + n) p) (e - c - n) flag → Pasted q r (at + (e - c - n)) (replicate n blank) n flag'
+      → Edited (DeleteCells k c e n) p r bits
   delete-edited P Q =
       let m : ℕ = e - c - n in
       let x : List ℕ = row p k in
@@ -77,13 +78,15 @@ module _ {p q r : List ℕ} {k c e n at : ℕ} {flag flag' : Bool} {bits : ℕ} 
       (both-flagged P Q h1 s1 h2 s2 apart) in
       redone-as
       (redone-part B (simp (length-append, length-replicate) (omega arith)) place parts eb (λ j. deleted (row p j) c e n)
-      (ap (λ (l : List ℕ). paste x c (l ++ replicate n blank) (e - c)) (sym (part-of-row p k (c + n) m (omega arith) ∙ ap (λ (i : ℕ). take m (drop i p)) source))
+      (ap (λ (l : List ℕ). paste x c (l ++ replicate n blank) (e - c))
+      (sym (part-of-row p k (c + n) m (omega arith) ∙ ap (λ (i : ℕ). take m (drop i p)) source))
       ∙ sym (deleted-paste x c e n (omega arith) h (omega arith))))
       (λ j. true) (after (DeleteCells k c e n) (row p)) (λ j. refl)
 
 -- ---- one cell
 
-pub put-edited : {p : List ℕ} {k c at : ℕ} {bits : ℕ} (w : ℕ) → BlockFits p k (k + 1) c (c + 1) → at ≡ 80 * k + c → bits ≡ bit (not (eqb (getD p (at) 0) w)) * 2 ^ k
+pub put-edited : {p : List ℕ} {k c at : ℕ} {bits : ℕ} (w : ℕ) → BlockFits p k (k + 1) c (c + 1) → at ≡ 80 * k + c
+    → bits ≡ bit (not (eqb (getD p (at) 0) w)) * 2 ^ k
     → Edited (Put k c w) p (set p (at) w) bits
 put-edited {p} {k} {c} {at} w B place eb =
     let x : List ℕ = row p k in
@@ -95,6 +98,7 @@ put-edited {p} {k} {c} {at} w B place eb =
       flagged = sym (or-false (not (eqb (getD p at 0) w))) ∙ ap (λ (l : List ℕ). differs (take 1 l) (w ∷ [])) (sym (drop-cons p at 0 h));
     } in
     redone-as
-    (redone-part B (omega arith) place (subst (λ (n : ℕ). Pasted p (set p at w) at (w ∷ []) n (not (eqb (getD p at 0) w))) one stored) eb (λ j. set (row p j) c w)
+    (redone-part B (omega arith) place (subst (λ (n : ℕ). Pasted p (set p at w) at (w ∷ []) n (not (eqb (getD p at 0) w))) one stored) eb
+    (λ j. set (row p j) c w)
     (ap (paste x c (w ∷ [])) (sym one) ∙ sym (set-paste x c w (omega arith))))
     (λ j. true) (after (Put k c w) (row p)) (λ j. refl)

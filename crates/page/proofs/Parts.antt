@@ -1,5 +1,5 @@
 -- Each row after an edit is the row before it with one part replaced, and that part is the edit's target there.
-use mathlib.Core.Path.{_≡_, refl, sym, ap, ap₂, _∙_}
+use mathlib.Core.Path.{_≡_, refl, sym, ap, _∙_}
 use mathlib.Core.Bool.{Bool, true, false, cond, _&&_}
 use mathlib.Core.List.{List, [], _∷_, _++_, append-assoc, map}
 use mathlib.Core.Logic.{_⊎_, inl, inr, ⊎-elim}
@@ -14,40 +14,34 @@ use Rattle.page.specs.declared.Edit.{Edit}
 use Rattle.page.specs.declared.Edit.the-variants.{Keep, Put, InsertCells, DeleteCells, ScrollUp, ScrollDown, Fill, SelectiveErase}
 use Rattle.cells.specs.Cells.{blank, selectivelyErased}
 use Rattle.cells.specs.Rows.{row}
-use Rattle.page.specs.Edits.{blankRow, inserted, deleted, overlaid, runStart, runLength, after, inRange, target, Within}
+use Rattle.page.specs.Edits.{blankRow, inserted, deleted, overlaid, rangeStart, rangeLength, after, inRange, target, Within}
 use Rattle.ground.proofs.ListLaws.{split-lt, paste-outside}
 use Rattle.cells.proofs.RowLaws.{length-row}
 use Rattle.page.proofs.Ranges.{not-in-range}
 
 -- ---- cells that move within a row, as a paste
 
-module _ (x : List ℕ) (a e n : ℕ) (h : a ≤ e) (k : n ≤ e - a) where
-  whole : e - a ≡ n + (e - a - n)
-  whole = omega arith
+-- the first words of a list that begins with n of one
+pub take-entered : (n w m : ℕ) (y : List ℕ) → n ≤ m → take m (replicate n w ++ y) ≡ replicate n w ++ take (m - n) y
+take-entered n w m y h =
+    let e : m ≡ length (replicate n w) + (m - n) = simp length-replicate (omega arith) in
+    ap (λ (i : ℕ). take i (replicate n w ++ y)) e ∙ take-append-add (replicate n w) y (m - n)
 
+module _ (x : List ℕ) (a e n : ℕ) (h : a ≤ e) (k : n ≤ e - a) where
   end : a + (e - a) ≡ e
   end = omega arith
 
   pub inserted-paste : (w : ℕ) → inserted x a e n w ≡ paste x a (replicate n w ++ drop a x) (e - a)
-  inserted-paste w = sym
-      (ap₂ (λ (u v : List ℕ). take a x ++ u ++ v)
-      (ap (λ (i : ℕ). take i (replicate n w ++ drop a x)) (whole ∙ ap (λ (i : ℕ). i + (e - a - n)) (sym (length-replicate n w)))
-      ∙ take-append-add (replicate n w) (drop a x) (e - a - n))
-      (ap (λ (i : ℕ). drop i x) end)
-      ∙ ap (λ (l : List ℕ). l ++ drop e x) (sym (append-assoc (take a x) (replicate n w) (take (e - a - n) (drop a x)))))
+  inserted-paste w = rw (take-entered n w (e - a) (drop a x) k, end) (simp append-assoc)
 
   pub deleted-paste : e ≤ length x → deleted x a e n ≡ paste x a (take (e - a - n) (drop (a + n) x) ++ replicate n blank) (e - a)
   deleted-paste l =
       let m : List ℕ = take (e - a - n) (drop (a + n) x) in
-      let lm : length (take (e - a - n) (drop (a + n) x)) ≡ e - a - n = simp (length-take, length-drop) (omega arith) in
-      ap (λ (l : List ℕ). l ++ drop e x) (append-assoc (take a x) m (replicate n blank))
-      ∙ ap₂ (λ (u v : List ℕ). take a x ++ u ++ v)
-      (sym (take-all (e - a) (m ++ replicate n blank) (simp (length-append, length-replicate) (omega arith))))
-      (ap (λ (i : ℕ). drop i x) (sym end))
+      let all = take-all (e - a) (m ++ replicate n blank) (simp (length-append, length-replicate, length-take, length-drop) (omega arith)) in
+      rw (all, end) (simp append-assoc)
 
 pub set-paste : (x : List ℕ) (c w : ℕ) → c < length x → set x c w ≡ paste x c (w ∷ []) 1
-set-paste x c w h =
-    set-split x c w h ∙ sym (append-snoc (take c x) w (drop (suc c) x)) ∙ ap (λ (i : ℕ). take c x ++ (w ∷ []) ++ drop i x) (sym (add-one c))
+set-paste x c w h = rw (set-split x c w h, add-one) (sym (append-snoc (take c x) w (drop (suc c) x)))
 
 -- ---- the part of a row that is replaced
 
@@ -90,10 +84,11 @@ cells-part x y s a e h k lx ls is = record {
 }
 
 -- the cells of a run that lie in row k
-run-part : (x s : List ℕ) (a z k : ℕ) → a ≤ z → length x ≡ 80 → runLength a z k ≤ length s → Part x (paste x (runStart a k) s (runLength a z k)) (λ j. inRange a z (80 * k + j))
-run-part x s a z k h lx ls = record {
-  start = runStart a k;
-  count = runLength a z k;
+range-part : (x s : List ℕ) (a z k : ℕ) → a ≤ z → length x ≡ 80 → rangeLength a z k ≤ length s → Part x (paste x (rangeStart a k) s (rangeLength a z k))
+    (λ j. inRange a z (80 * k + j))
+range-part x s a z k h lx ls = record {
+  start = rangeStart a k;
+  count = rangeLength a z k;
   new = s;
   fits = omega arith;
   enough = ls;
@@ -136,14 +131,17 @@ module _ (n : ℕ) (p : List ℕ) (hp : length p ≡ 80 * n) (k : ℕ) (hk : k <
       (deleted-paste (row p k) c e m (omega arith) (omega arith) (omega arith)))
   part (ScrollUp t e a z m) w = if-part (inRange t e k) (row p k) (overlaid (row p k) a z (cond (ltb (k + m) e) (row p (k + m)) blankRow)) (inRange a z) (λ b.
       let l = source-row p (ltb (k + m) e) (k + m) (λ s. let l = ltb-true (k + m) e s in omega arith) in
-      cells-part (row p k) _ (drop a (cond (ltb (k + m) e) (row p (k + m)) blankRow)) a z (omega arith) (omega arith) long (simp length-drop (omega arith)) refl)
-  part (ScrollDown t e a z m) w = if-part (inRange t e k) (row p k) (overlaid (row p k) a z (cond (leb (t + m) k) (row p (k - m)) blankRow)) (inRange a z) (λ b.
+      cells-part (row p k) _ (drop a (cond (ltb (k + m) e) (row p (k + m)) blankRow)) a z (omega arith) (omega arith) long (simp length-drop (omega arith))
+      refl)
+  part (ScrollDown t e a z m) w = if-part (inRange t e k) (row p k) (overlaid (row p k) a z (cond (leb (t + m) k) (row p (k - m)) blankRow)) (inRange a z)
+      (λ b.
       let l = source-row p (leb (t + m) k) (k - m) (λ s. let l = leb-true (t + m) k s in omega arith) in
-      cells-part (row p k) _ (drop a (cond (leb (t + m) k) (row p (k - m)) blankRow)) a z (omega arith) (omega arith) long (simp length-drop (omega arith)) refl)
-  part (Fill a z v) w = run-part (row p k) (replicate (runLength a z k) v) a z k (omega arith) long (simp length-replicate (omega arith))
+      cells-part (row p k) _ (drop a (cond (leb (t + m) k) (row p (k - m)) blankRow)) a z (omega arith) (omega arith) long (simp length-drop (omega arith))
+      refl)
+  part (Fill a z v) w = range-part (row p k) (replicate (rangeLength a z k) v) a z k (omega arith) long (simp length-replicate (omega arith))
   part (SelectiveErase a z) w =
       let l = long in
-      run-part (row p k) (map selectivelyErased (drop (runStart a k) (row p k))) a z k (omega arith) l (simp (length-map, length-drop) (omega arith))
+      range-part (row p k) (map selectivelyErased (drop (rangeStart a k) (row p k))) a z k (omega arith) l (simp (length-map, length-drop) (omega arith))
 
 -- each row after an edit that stays on the page is a row
 pub length-after : (n : ℕ) (e : Edit) (p : List ℕ) → length p ≡ 80 * n → Within n e → (k : ℕ) → k < n → length (after e (row p) k) ≡ 80

@@ -2,14 +2,14 @@
 use mathlib.Core.Path.{_≡_, refl, sym, ap, ap₂, subst, _∙_}
 use mathlib.Core.Bool.{Bool, true, false, cond}
 use mathlib.Core.List.{List}
-use mathlib.Core.Logic.{_⊎_, inl, inr, ⊎-elim}
+use mathlib.Core.Logic.{_⊎_, inl, inr}
 use Prim.Native.Nat.{ℕ, _+_, _-_, _*_, _^_, _≤_}
 use native.Mathlib.Omega.{arith}
 use lib.Dec.{eqb}
 use lib.Bits.{bitOr}
 use lib.ListN.{length, take, drop, length-drop}
 use lib.Seq.{paste}
-use borrow.Author.Tests.{eq-eqb, ne-eqb}
+use borrow.Author.Tests.{eqb-true, eqb-false}
 use Rattle.cells.specs.Cells.{bit}
 use Rattle.cells.specs.Rows.{row, differs}
 use Rattle.page.specs.declared.Edit.{Edit}
@@ -17,7 +17,7 @@ use Rattle.page.specs.declared.Edit.the-variants.{Keep}
 use Rattle.page.specs.Edits.{overlaid}
 use Rattle.cells.specs.Segments.{Pasted}
 use Rattle.page.specs.Writes.{Redone, Edited, BlockFits, Fits, Applied}
-use Rattle.ground.proofs.ListLaws.{split-eq}
+use Rattle.ground.proofs.TestLaws.{either}
 use Rattle.cells.proofs.Differing.{paste-ext, differs-paste}
 use Rattle.page.proofs.EditLaws.{applied-is}
 use Rattle.cells.proofs.RowParts.{part-of-row, kept-long, row-others, row-pasted}
@@ -27,7 +27,8 @@ use Rattle.cells.proofs.ChangeLaws.{changed-none, changed-one, changed-join, ch
 -- ---- a paste within one row
 
 -- a row that a paste lies in is made anew, and its bit says whether it differs
-pub redone-part : {p q : List ℕ} {k a e at : ℕ} {s : List ℕ} {flag : Bool} {bits : ℕ} → BlockFits p k (k + 1) a e → e - a ≤ length s → at ≡ 80 * k + a → Pasted p q at s (e - a) flag
+pub redone-part : {p q : List ℕ} {k a e at : ℕ} {s : List ℕ} {flag : Bool} {bits : ℕ} → BlockFits p k (k + 1) a e → e - a ≤ length s → at ≡ 80 * k + a
+    → Pasted p q at s (e - a) flag
     → bits ≡ bit flag * 2 ^ k → (g : ℕ → List ℕ) → paste (row p k) a s (e - a) ≡ g k → Redone p q (λ j. eqb j k) g bits
 redone-part {p} {q} {k} {a} {e} {at} {s} {flag} B hs place P' eb g eg =
     let P : Pasted p q (80 * k + a) s (e - a) flag = subst (λ (i : ℕ). Pasted p q i s (e - a) flag) place P' in
@@ -38,21 +39,21 @@ redone-part {p} {q} {k} {a} {e} {at} {s} {flag} B hs place P' eb g eg =
     let others : (j : ℕ) → (j ≡ k → ⊥) → row q j ≡ row p j = λ j ne. ap (λ (l : List ℕ). row l j) (P .page) ∙ row-others p k a s (e - a) h hp hs j ne in
     record {
       long = ap length (P .page) ∙ kept-long p k a s (e - a) h hp hs;
-      rows = λ j. ⊎-elim
-          (λ (i : j ≡ k). rw (eq-eqb j k i, i) (same ∙ eg))
-          (λ (ne : j ≡ k → ⊥). rw (ne-eqb j k ne) (others j ne))
-          (split-eq j k);
+      rows = λ j. either (λ x. row q j ≡ x) (eqb j k) (λ i. rw (eqb-true j k i) (same ∙ eg)) (λ ne. others j (eqb-false j k ne));
       marked = eb ∙ sym (changed-one 64 p q k flag (omega arith)
-          (ap (differs (row p k)) same ∙ differs-paste (row p k) a s (e - a) (omega arith) hs ∙ ap (λ (l : List ℕ). differs l (take (e - a) s)) (part-of-row p k a (e - a) h) ∙ sym (P .flagged))
+          (ap (differs (row p k)) same ∙ differs-paste (row p k) a s (e - a) (omega arith) hs ∙ ap (λ (l : List ℕ). differs l (take (e - a) s))
+          (part-of-row p k a (e - a) h) ∙ sym (P .flagged))
           others);
     }
 
 -- and so is a row that takes columns of another
-pub redone-move : {p q : List ℕ} {k a e at from : ℕ} {flag : Bool} {bits : ℕ} (j : ℕ) → BlockFits p k (k + 1) a e → 80 * (j + 1) ≤ length p → at ≡ 80 * k + a → from ≡ 80 * j + a
+pub redone-move : {p q : List ℕ} {k a e at from : ℕ} {flag : Bool} {bits : ℕ} (j : ℕ) → BlockFits p k (k + 1) a e → 80 * (j + 1) ≤ length p
+    → at ≡ 80 * k + a → from ≡ 80 * j + a
     → Pasted p q at (drop from p) (e - a) flag → bits ≡ bit flag * 2 ^ k → Redone p q (λ i. eqb i k) (λ i. overlaid (row p i) a e (row p j)) bits
 redone-move {p} {q} {k} {a} {e} {at} {from} {flag} j B h place source P eb =
     redone-part B (simp length-drop (omega arith)) place P eb (λ i. overlaid (row p i) a e (row p j))
-    (paste-ext (row p k) a (drop from p) (drop a (row p j)) (e - a) (ap (λ (i : ℕ). take (e - a) (drop i p)) source ∙ sym (part-of-row p j a (e - a) (omega arith))))
+    (paste-ext (row p k) a (drop from p) (drop a (row p j)) (e - a)
+    (ap (λ (i : ℕ). take (e - a) (drop i p)) source ∙ sym (part-of-row p j a (e - a) (omega arith))))
 
 -- ---- one change after another
 

@@ -1,12 +1,14 @@
 -- What an edit makes of a page: each row after it, by the rows before it.
 use mathlib.Core.Bool.{Bool, true, false, cond, _&&_}
 use mathlib.Core.List.{List, _++_, map}
+use mathlib.Core.Path.{_≡_}
 use Prim.Native.Nat.{ℕ, _+_, _-_, _*_, _≤_, _<_, min}
 use lib.Dec.{eqb, leb, ltb}
-use lib.ListN.{take, drop, set, replicate}
+use lib.ListN.{length, getD, take, drop, set, replicate}
 use lib.Seq.{paste}
 use Rattle.cells.specs.Cells.{blank, selectivelyErased}
 use Rattle.cells.specs.Rows.{joined, rowsOf, nth}
+use Rattle.cells.specs.Sets.{changed}
 use Rattle.page.specs.declared.Edit.{Edit}
 use Rattle.page.specs.declared.Edit.the-variants.{Keep, Put, InsertCells, DeleteCells, ScrollUp, ScrollDown, Fill, SelectiveErase}
 
@@ -32,13 +34,13 @@ deleted x a e n = take a x ++ take (e - a - n) (drop (a + n) x) ++ replicate n b
 abbrev pub overlaid : List ℕ → ℕ → ℕ → List ℕ → List ℕ
 overlaid x a e y = paste x a (drop a y) (e - a)
 
--- ---- a run of cells in reading order, seen from row k: the column where it begins there, and how many cells it has there
+-- ---- a range of cells in reading order, seen from row k: the column where it begins there, and how many cells it has there
 
-abbrev pub runStart : ℕ → ℕ → ℕ
-runStart from k = min (from - 80 * k) 80
+abbrev pub rangeStart : ℕ → ℕ → ℕ
+rangeStart from k = min (from - 80 * k) 80
 
-abbrev pub runLength : ℕ → ℕ → ℕ → ℕ
-runLength from to k = min (to - 80 * k) 80 - runStart from k
+abbrev pub rangeLength : ℕ → ℕ → ℕ → ℕ
+rangeLength from to k = min (to - 80 * k) 80 - rangeStart from k
 
 -- ---- edits
 
@@ -50,8 +52,8 @@ after (InsertCells r c e n w) f k = cond (eqb k r) (inserted (f k) c e n w) (f k
 after (DeleteCells r c e n) f k = cond (eqb k r) (deleted (f k) c e n) (f k)
 after (ScrollUp t e a z n) f k = cond (inRange t e k) (overlaid (f k) a z (cond (ltb (k + n) e) (f (k + n)) blankRow)) (f k)
 after (ScrollDown t e a z n) f k = cond (inRange t e k) (overlaid (f k) a z (cond (leb (t + n) k) (f (k - n)) blankRow)) (f k)
-after (Fill a z w) f k = let n = runLength a z k in paste (f k) (runStart a k) (replicate n w) n
-after (SelectiveErase a z) f k = paste (f k) (runStart a k) (map selectivelyErased (drop (runStart a k) (f k))) (runLength a z k)
+after (Fill a z w) f k = let n = rangeLength a z k in paste (f k) (rangeStart a k) (replicate n w) n
+after (SelectiveErase a z) f k = paste (f k) (rangeStart a k) (map selectivelyErased (drop (rangeStart a k) (f k))) (rangeLength a z k)
 
 -- the page of n rows after an edit
 unfoldable pub applied : ℕ → Edit → List ℕ → List ℕ
@@ -109,7 +111,7 @@ pub record RowsFit (n t e a z k : ℕ) : Type 0 where
   pub right : z ≤ 80
   pub count : k ≤ e - t
 
-pub record RunFits (n a z : ℕ) : Type 0 where
+pub record RangeFits (n a z : ℕ) : Type 0 where
   pub start : a ≤ z
   pub end : z ≤ 80 * n
 
@@ -120,5 +122,16 @@ Within n (InsertCells r c e k w) = CellsFit n r c e k
 Within n (DeleteCells r c e k) = CellsFit n r c e k
 Within n (ScrollUp t e a z k) = RowsFit n t e a z k
 Within n (ScrollDown t e a z k) = RowsFit n t e a z k
-Within n (Fill a z w) = RunFits n a z
-Within n (SelectiveErase a z) = RunFits n a z
+Within n (Fill a z w) = RangeFits n a z
+Within n (SelectiveErase a z) = RangeFits n a z
+
+-- ---- what is kept and what is reported when an edit takes a page p of n rows to q
+
+pub record Faithful (n : ℕ) (e : Edit) (p q : List ℕ) : Type 0 where
+  -- the length is kept
+  pub long : length q ≡ length p
+  -- each cell outside the edit's target keeps its word
+  pub outside : (k c : ℕ) → k < n → c < 80 → target e k c ≡ false → getD q (80 * k + c) 0 ≡ getD p (80 * k + c) 0
+  -- a row is reported exactly if one of its cells has another word
+  pub reported : (k : ℕ) → k < n → changed p q k ≡ true → (c : ℕ) × (c < 80) × (getD p (80 * k + c) 0 ≡ getD q (80 * k + c) 0 → ⊥)
+  pub differing : (k c : ℕ) → k < n → c < 80 → (getD p (80 * k + c) 0 ≡ getD q (80 * k + c) 0 → ⊥) → changed p q k ≡ true

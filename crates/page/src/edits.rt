@@ -16,7 +16,7 @@ ghost use Prim.Native.Nat.{_+_, _-_, _/_, _≤_};
 ghost use lib.ListN.{length, replicate};
 ghost use Rattle.page.specs.declared.Edit.the-variants.{Put, InsertCells, DeleteCells, ScrollUp, ScrollDown, Fill, SelectiveErase};
 ghost use Rattle.cells.specs.Cells.{blank};
-ghost use Rattle.page.specs.Edits.{runStart};
+ghost use Rattle.page.specs.Edits.{rangeStart};
 ghost use Rattle.page.specs.Writes.{Edited, BlockFits, Fits, Applied};
 
 // The page's width among places in reading order, and how far a row's last cell is from its first.
@@ -83,7 +83,7 @@ fn scroll_down(page: &mut [u16], top: u8, end: u8, left: u8, right: u8, count: u
 
 // The column at which a place in reading order meets a row: 0 if it lies before it, 80 if behind it.
 fn column_in(place: u16, row: u8) -> u8
-    ensures { λ r. ⌜ r ≡ runStart place row ⌝ }
+    ensures { λ r. ⌜ r ≡ rangeStart place row ⌝ }
 {
     let first = WIDTH * (row as u16);
     if place <= first {
@@ -95,7 +95,7 @@ fn column_in(place: u16, row: u8) -> u8
     }
 }
 
-// Each cell of a run becomes `word`.
+// Each cell of a range becomes `word`.
 fn fill(page: &mut [u16], from: u16, to: u16, word: u16) -> u64
     requires { ⌜ BlockFits (now page) (from / 80) ((to + 79) / 80) 0 80 × (from ≤ to) ⌝ }
     ensures { λ r. ⌜ Edited (Fill from to word) (now (page .entry)) (now (page .exit)) r ⌝ }
@@ -110,7 +110,7 @@ fn fill(page: &mut [u16], from: u16, to: u16, word: u16) -> u64
     bits
 }
 
-// Each cell of a run that is not protected becomes a space.
+// Each cell of a range that is not protected becomes a space.
 fn selective_erase(page: &mut [u16], from: u16, to: u16) -> u64
     requires { ⌜ BlockFits (now page) (from / 80) ((to + 79) / 80) 0 80 × (from ≤ to) ⌝ }
     ensures { λ r. ⌜ Edited (SelectiveErase from to) (now (page .entry)) (now (page .exit)) r ⌝ }

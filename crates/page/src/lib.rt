@@ -43,13 +43,13 @@ pub enum Edit {
         right: u8,
         count: u8,
     },
-    // Each cell of a run becomes `word`.
+    // Each cell of a range becomes `word`.
     Fill {
         from: u16,
         to: u16,
         word: u16,
     },
-    // Each cell of a run that is not protected becomes a space of ASCII, and keeps its flags.
+    // Each cell of a range that is not protected becomes a space of ASCII, and keeps its flags.
     SelectiveErase {
         from: u16,
         to: u16,

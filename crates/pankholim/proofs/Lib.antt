@@ -1,5 +1,4 @@
 pub mod TextLaws
-pub mod RecordLaws
 pub mod CallLaws
 pub mod RecordWalk
 pub mod WalkKit

@@ -13,38 +13,38 @@ use Rattle.terminal.specs.Ask.{Ask}
 use Rattle.terminal.specs.Read.{Read}
 use Rattle.terminal.specs.CursorRead.{CursorReading}
 use Rattle.text.specs.Text.{pageText, written}
-use Rattle.pankholim.specs.declared.record.Terminal.{Terminal}
-use Rattle.pankholim.specs.Numbers.{flagNumber}
-use Rattle.pankholim.specs.Record.{stateOf, recordOf}
+use Rattle.record.specs.declared.Terminal.{Terminal}
+use Rattle.record.specs.Numbers.{flagNumber}
+use Rattle.record.specs.Record.{stateOf, recordOf}
 
 -- the record that a call leaves: refused, as it came, else that of the state returned
-abbrev pub left : Terminal → Answer → State → Terminal
-left t a s = cond (refusal a) t (recordOf s)
+abbrev pub recordLeft : Terminal → Answer → State → Terminal
+recordLeft t a s = cond (refusal a) t (recordOf s)
 
 -- t is the record at entry, and d is `started` of a number of rows and a page; the number returned, and the record and the page at exit.
 -- Refused, the record is left, and with it its state: the fresh 24-row state that the call by value returns is not stored.
 pub record StartLeaves (t : Terminal) (d : Start) (r : ℕ) (terminal : Terminal) (page : List ℕ) : Type 0 where
   pub answer-is : r ≡ d .number
   pub state-is : stateOf terminal ≡ cond (refusal (d .result .answer)) (stateOf t) (d .result .state)
-  pub terminal-is : terminal ≡ left t (d .result .answer) (d .result .state)
+  pub terminal-is : terminal ≡ recordLeft t (d .result .answer) (d .result .state)
   pub page-is : page ≡ d .page
 
 -- t is the record at entry, and d is `fed` of its state, a page, the input and a reply buffer; the number returned, and the rest at exit
 pub record FeedLeaves (t : Terminal) (d : Feed) (r : ℕ) (terminal : Terminal) (page reply : List ℕ) (read replied : ℕ) : Type 0 where
   pub answer-is : r ≡ d .number
   pub state-is : stateOf terminal ≡ d .result .state
-  pub terminal-is : terminal ≡ left t (d .result .answer) (d .result .state)
+  pub terminal-is : terminal ≡ recordLeft t (d .result .answer) (d .result .state)
   pub page-is : page ≡ d .page
   pub reply-is : reply ≡ d .reply
   pub read-is : read ≡ d .result .read
   pub replied-is : replied ≡ d .result .replied
 
 -- t is the record at entry, and d is `asked` of its state; the number returned, and the record, the changed rows and how many they are at exit
-pub record AskLeaves (t : Terminal) (d : Ask) (r : ℕ) (terminal : Terminal) (rows count : ℕ) : Type 0 where
+pub record AskLeaves (t : Terminal) (d : Ask) (r : ℕ) (terminal : Terminal) (changed count : ℕ) : Type 0 where
   pub answer-is : r ≡ d .number
   pub state-is : stateOf terminal ≡ d .result .state
-  pub terminal-is : terminal ≡ left t (d .result .answer) (d .result .state)
-  pub rows-is : rows ≡ d .result .rows
+  pub terminal-is : terminal ≡ recordLeft t (d .result .answer) (d .result .state)
+  pub changed-is : changed ≡ d .result .rows
   pub count-is : count ≡ d .result .count
 
 -- d is `cellRead` of a record's state, a page, a row and a column; the number returned, and the word at exit

@@ -1,4 +1,2 @@
-pub mod Numbers
-pub mod Record
 pub mod Leaves
 pub mod Version

@@ -1,8 +1,8 @@
 // The calls with the record by value: what each leaves of it is returned.
-use crate::numbers::flag_number;
-use crate::record::Terminal;
-use crate::record::record_of;
-use crate::state::state_of;
+use record::Terminal;
+use record::from_state::record_of;
+use record::numbers::flag_number;
+use record::to_state::state_of;
 use steps::State;
 use terminal::Answer;
 use terminal::answers::number;
@@ -14,11 +14,11 @@ ghost use Rattle.terminal.specs.Feed.{fed};
 ghost use Rattle.terminal.specs.Ask.{asked};
 ghost use Rattle.terminal.specs.Read.{cellRead};
 ghost use Rattle.terminal.specs.CursorRead.{cursorRead};
-ghost use Rattle.pankholim.specs.Record.{stateOf};
+ghost use Rattle.record.specs.Record.{stateOf};
 ghost use Rattle.pankholim.specs.Leaves as leaving;
 
 // The number of an answer, and the record that a call leaves.
-pub struct Left {
+pub struct Outcome {
     pub answer: u8,
     pub terminal: Terminal,
 }
@@ -37,7 +37,7 @@ fn refused(answer: Answer) -> bool
 
 // Refused, the record as it came; else that of the state returned.
 fn record_left(terminal: Terminal, answer: Answer, state: State) -> Terminal
-    ensures { λ r. ⌜ r ≡ leaving.left terminal answer state ⌝ }
+    ensures { λ r. ⌜ r ≡ leaving.recordLeft terminal answer state ⌝ }
 {
     if refused(answer) {
         return terminal;
@@ -45,12 +45,12 @@ fn record_left(terminal: Terminal, answer: Answer, state: State) -> Terminal
     record_of(state)
 }
 
-pub fn start(terminal: Terminal, rows: usize, page: &mut [u16]) -> Left
+pub fn start(terminal: Terminal, rows: usize, page: &mut [u16]) -> Outcome
     ensures { λ r. ⌜ leaving.StartLeaves terminal (started rows (now (page .entry))) (r .answer) (r .terminal) (now (page .exit)) ⌝ }
 {
     let done = calls::start(rows as usize, page);
     let answer = done.answer;
-    Left {
+    Outcome {
         answer: number(answer),
         terminal: record_left(terminal, answer, done.state),
     }
@@ -63,27 +63,27 @@ pub fn feed(
     reply: &mut [u8],
     read: &mut usize,
     replied: &mut usize,
-) -> Left
+) -> Outcome
     ensures { λ r. ⌜ leaving.FeedLeaves terminal (fed (stateOf terminal) (now (page .entry)) (now (input .entry)) (now (reply .entry))) (r .answer) (r .terminal) (now (page .exit)) (now (reply .exit)) (now (read .exit)) (now (replied .exit)) ⌝ }
 {
     let done = calls::feed(state_of(terminal), page, input, reply);
     *read = done.read;
     *replied = done.replied;
     let answer = done.answer;
-    Left {
+    Outcome {
         answer: number(answer),
         terminal: record_left(terminal, answer, done.state),
     }
 }
 
-pub fn ask(terminal: Terminal, rows: &mut u64, count: &mut u32) -> Left
-    ensures { λ r. ⌜ leaving.AskLeaves terminal (asked (stateOf terminal)) (r .answer) (r .terminal) (now (rows .exit)) (now (count .exit)) ⌝ }
+pub fn ask(terminal: Terminal, changed: &mut u64, count: &mut u32) -> Outcome
+    ensures { λ r. ⌜ leaving.AskLeaves terminal (asked (stateOf terminal)) (r .answer) (r .terminal) (now (changed .exit)) (now (count .exit)) ⌝ }
 {
     let done = calls::ask(state_of(terminal));
-    *rows = done.rows;
+    *changed = done.rows;
     *count = done.count;
     let answer = done.answer;
-    Left {
+    Outcome {
         answer: number(answer),
         terminal: record_left(terminal, answer, done.state),
     }

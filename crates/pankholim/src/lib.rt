@@ -1,10 +1,7 @@
 // The terminal for C: one record per modem, changed where it lies.
 mod by_value;
-mod numbers;
-pub mod record;
-mod state;
 
-use crate::record::Terminal;
+use record::Terminal;
 use text::Written;
 use text::text_len;
 use text::write_text;
@@ -16,7 +13,7 @@ ghost use Rattle.terminal.specs.Ask.{asked};
 ghost use Rattle.terminal.specs.Read.{cellRead};
 ghost use Rattle.terminal.specs.CursorRead.{cursorRead};
 ghost use Rattle.text.specs.Text.{pageText};
-ghost use Rattle.pankholim.specs.Record.{stateOf};
+ghost use Rattle.record.specs.Record.{stateOf};
 ghost use Rattle.pankholim.specs.Leaves.{StartLeaves, FeedLeaves, AskLeaves, ReadLeaves, CursorLeaves, WriteLeaves};
 ghost use Rattle.pankholim.specs.Version.{version};
 
@@ -39,9 +36,9 @@ pub extern "C" fn pankholim_version() -> u32
 pub extern "C" fn pankholim_start(terminal: &mut Terminal, rows: usize, page: &mut [u16]) -> u8
     ensures { λ r. ⌜ StartLeaves (now (terminal .entry)) (started rows (now (page .entry))) r (now (terminal .exit)) (now (page .exit)) ⌝ }
 {
-    let left = by_value::start(*terminal, rows, page);
-    *terminal = left.terminal;
-    left.answer
+    let outcome = by_value::start(*terminal, rows, page);
+    *terminal = outcome.terminal;
+    outcome.answer
 }
 
 // Feeds bytes from the modem, until the input ends or a reply does not fit.
@@ -56,19 +53,19 @@ pub extern "C" fn pankholim_feed(
 ) -> u8
     ensures { λ r. ⌜ FeedLeaves (now (terminal .entry)) (fed (stateOf (now (terminal .entry))) (now (page .entry)) (now (input .entry)) (now (reply .entry))) r (now (terminal .exit)) (now (page .exit)) (now (reply .exit)) (now (read .exit)) (now (replied .exit)) ⌝ }
 {
-    let left = by_value::feed(*terminal, page, input, reply, read, replied);
-    *terminal = left.terminal;
-    left.answer
+    let outcome = by_value::feed(*terminal, page, input, reply, read, replied);
+    *terminal = outcome.terminal;
+    outcome.answer
 }
 
 // Asks for the changed rows, and empties the set.
 #[no_mangle]
-pub extern "C" fn pankholim_ask(terminal: &mut Terminal, rows: &mut u64, count: &mut u32) -> u8
-    ensures { λ r. ⌜ AskLeaves (now (terminal .entry)) (asked (stateOf (now (terminal .entry)))) r (now (terminal .exit)) (now (rows .exit)) (now (count .exit)) ⌝ }
+pub extern "C" fn pankholim_ask(terminal: &mut Terminal, changed: &mut u64, count: &mut u32) -> u8
+    ensures { λ r. ⌜ AskLeaves (now (terminal .entry)) (asked (stateOf (now (terminal .entry)))) r (now (terminal .exit)) (now (changed .exit)) (now (count .exit)) ⌝ }
 {
-    let left = by_value::ask(*terminal, rows, count);
-    *terminal = left.terminal;
-    left.answer
+    let outcome = by_value::ask(*terminal, changed, count);
+    *terminal = outcome.terminal;
+    outcome.answer
 }
 
 // Reads a cell by its row and column, counted from 1.

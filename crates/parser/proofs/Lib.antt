@@ -1,5 +1,4 @@
 pub mod PhaseLaws
 pub mod ParamLaws
 pub mod RuleLaws
-pub mod Spans
-pub mod IdleLaws
+pub mod SequenceLaws

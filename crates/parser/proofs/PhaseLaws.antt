@@ -3,7 +3,8 @@ use mathlib.Core.Path.{_≡_, refl, sym, ap, _∙_}
 use mathlib.Core.Bool.{true}
 use borrow.Author.Tests.{eqb-true}
 use Rattle.parser.specs.declared.phases.Phase.{Phase}
-use Rattle.parser.specs.declared.phases.Phase.the-variants.{Ground, Escape, EscapeOne, EscapeTwo, EscapeIgnore, CsiEntry, CsiParam, CsiOne, CsiTwo, CsiIgnore, StringText}
+use Rattle.parser.specs.declared.phases.Phase.the-variants.{Ground, Escape, EscapeOne, EscapeTwo, EscapeIgnore, CsiEntry, CsiParam, CsiOne, CsiTwo}
+use Rattle.parser.specs.declared.phases.Phase.the-variants.{CsiIgnore, StringText}
 use Rattle.parser.specs.Phases.{phaseNumber, phaseOf, isPhase}
 
 pub phase-back : (p : Phase) → phaseOf (phaseNumber p) ≡ p

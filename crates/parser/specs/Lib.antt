@@ -2,5 +2,4 @@ pub mod Params
 pub mod Parser
 pub mod Families
 pub mod WholeParser
-pub mod Idle
 pub mod Phases

@@ -3,7 +3,8 @@ use mathlib.Core.Bool.{Bool, cond, _||_}
 use Prim.Native.Nat.{ℕ}
 use lib.Dec.{eqb}
 use Rattle.parser.specs.declared.phases.Phase.{Phase}
-use Rattle.parser.specs.declared.phases.Phase.the-variants.{Ground, Escape, EscapeOne, EscapeTwo, EscapeIgnore, CsiEntry, CsiParam, CsiOne, CsiTwo, CsiIgnore, StringText}
+use Rattle.parser.specs.declared.phases.Phase.the-variants.{Ground, Escape, EscapeOne, EscapeTwo, EscapeIgnore, CsiEntry, CsiParam, CsiOne, CsiTwo}
+use Rattle.parser.specs.declared.phases.Phase.the-variants.{CsiIgnore, StringText}
 
 abbrev pub phaseNumber : Phase → ℕ
 phaseNumber Ground = 0

@@ -1,6 +1,5 @@
 // The parser: parameters, phases, and what a byte asks for.
 pub mod families;
-pub mod idle;
 pub mod params;
 pub mod parser;
 pub mod phases;

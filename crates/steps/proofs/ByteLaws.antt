@@ -1,5 +1,5 @@
 -- One byte of the code is one byte of the definition.
-use mathlib.Core.Path.{_≡_, sym, ap, ap₂, _∙_, subst}
+use mathlib.Core.Path.{_≡_, sym, ap, ap₂, _∙_}
 use mathlib.Core.List.{List}
 use Prim.Native.Nat.{ℕ, _*_, _^_, _<_}
 use lib.Bits.{bitOr, or-zero-l}
@@ -10,8 +10,8 @@ use Rattle.cells.specs.Sets.{bitsOf, changed}
 use Rattle.page.specs.Edits.{applied, Within}
 use Rattle.cells.proofs.BitLaws.{bits-lt, or-added}
 use Rattle.page.proofs.EditLaws.{length-applied}
-use Rattle.vt.specs.declared.core.Core.{Core}
-use Rattle.vt.specs.declared.core.Decision.{Decision}
+use Rattle.core.specs.declared.Core.{Core}
+use Rattle.core.specs.declared.Decision.{Decision}
 use Rattle.dispatch.specs.Decide.{decided}
 use Rattle.wholeness.proofs.Decisions.{Sound}
 use Rattle.wholeness.proofs.Sound.{decided-sound}
@@ -46,7 +46,7 @@ acted-is c b p q1 q2 x m1 m2 k ex e1 f1 e2 f2 =
     let w2 : Within r (x .second) = rw ex (snd .second) in
     let start : Marked = record { page = p; changed = 0 } in
     let l1 : length q1 ≡ 80 * r = ap length e1 ∙ length-applied r (x .first) p (k .size) w1 in
-    let b1 : m1 < 2 ^ r = subst (λ (n : ℕ). n < 2 ^ r) (sym f1) (bits-lt r (changed p q1)) in
+    let b1 : m1 < 2 ^ r = rw f1 (bits-lt r (changed p q1)) in
     let one : record { page = q1; changed = m1 } ≡ edited r (x .first) start =
     ap (λ (n : ℕ). record { page = q1; changed = n }) (sym (or-zero-l m1)) ∙ edited-is r (x .first) start q1 m1 (k .size) (pow-pos r) w1 e1 f1 in
     let two : record { page = q2; changed = bitOr m1 m2 } ≡ edited r (x .second) (edited r (x .first) start) =

@@ -11,7 +11,7 @@ use denote.Enum.Declared.{tagOf}
 use types.Run.{OneOf, miss}
 use borrow.Author.Tests.{le-leb, lt-leb, lt-ltb, ne-eqb, not-true}
 use Rattle.page.specs.declared.Edit.{Edit}
-use Rattle.page.specs.declared.Edit.the-variants.{Keep, Put, InsertCells}
+use Rattle.page.specs.declared.Edit.the-variants.{Keep, Put}
 use Rattle.page.specs.Writes.{Edited, Fits, Applied}
 use Rattle.page.specs.Edits.{Within}
 use Rattle.page.proofs.EditLaws.{keep-applied}
@@ -21,12 +21,10 @@ use Rattle.parser.specs.declared.phases.Phase.{Phase}
 use Rattle.parser.specs.declared.phases.Phase.the-variants.{Ground}
 use Rattle.parser.proofs.PhaseLaws.{phase-same}
 use Rattle.parser.specs.Phases.{isGround}
-use Rattle.parser.specs.declared.phases.Transition.{Transition}
 use Rattle.parser.specs.declared.parser.Parser.{Parser}
 use Rattle.parser.specs.declared.parser.Action.the-variants.{Control}
-use Rattle.parser.specs.declared.parser.Decoded.{Decoded}
 use Rattle.parser.specs.declared.phases.Op.the-variants.{Execute}
-use Rattle.parser.specs.Parser.{to, transition, inPhase, kept, actionOf, decode}
+use Rattle.parser.specs.Parser.{to, transition, inPhase, decode}
 use Rattle.ground.specs.Tests.{between}
 use Rattle.ground.proofs.TestLaws.{and-left, and-right, or-cases, between-low, between-high, at-number}
 use Rattle.device.specs.declared.charsets.SingleShift.{SingleShift}
@@ -34,16 +32,15 @@ use Rattle.device.specs.declared.charsets.SingleShift.the-variants.{NoShift, Ss
 use Rattle.device.proofs.charsets.SingleShift as shift
 use Rattle.device.specs.ReplyBytes.{replyBytes}
 use Rattle.device.specs.Charsets.{has96}
-use Rattle.vt.specs.declared.core.Core.{Core}
-use Rattle.vt.specs.declared.core.Decision.{Decision}
+use Rattle.core.specs.declared.Core.{Core}
+use Rattle.core.specs.declared.Decision.{Decision}
 use Rattle.device.specs.declared.cursor.Cursor.{Cursor}
 use Rattle.device.specs.Cursor.{toColumn, index, advance}
-use Rattle.vt.specs.Whole.{Whole}
-use Rattle.vt.specs.Effects.{withCursor, withParser, withShift, oneEdit, unedited}
+use Rattle.core.specs.Whole.{Whole}
+use Rattle.core.specs.Effects.{withCursor, withShift, oneEdit}
 use Rattle.vt.specs.Controls.{nextLined, indexed, controlled}
-use Rattle.vt.specs.Geometry.{leftStop, rightStop, stopsOf}
-use Rattle.vt.specs.Printing.{usedSet, skipped, indexEdit, glyph, printHere, printBelow, printedIn, put, printed}
-use Rattle.dispatch.specs.Replies.{replyTo}
+use Rattle.core.specs.Geometry.{leftStop, rightStop, stopsOf}
+use Rattle.vt.specs.Printing.{usedSet, skipped, indexEdit, glyph, put, printed}
 use Rattle.dispatch.proofs.HeardLaws.{reply-heard}
 use Rattle.dispatch.specs.WrapDue.{clearsWrap, withWrapPolicy}
 use Rattle.dispatch.specs.Decide.{executed, decided, sends}
@@ -55,9 +52,6 @@ use Rattle.steps.specs.Spans.{isCharacter, isUnshifted, printsDirectly, 
 use Rattle.steps.proofs.ByteLaws.{acted-is}
 
 -- ---- what the tests tell
-
-ground-is : (p : Phase) → isGround p ≡ true → p ≡ Ground
-ground-is p e = phase-same p Ground e
 
 unshifted-is : (x : SingleShift) → isUnshifted x ≡ true → x ≡ NoShift
 unshifted-is NoShift e = refl
@@ -80,16 +74,13 @@ record Character (b : ℕ) : Type 0 where
 
 character-is : (b : ℕ) → isCharacter b ≡ true → Character b
 character-is b e = or-cases (between 0x20 b 0x7E) (between 0xA1 b 0xFE) e
-    (λ h. let l : 0x20 ≤ b = between-low 0x20 b 0x7E h in let u : b ≤ 0x7E = between-high 0x20 b 0x7E h in
-    record {
-      graphic-is = rw (le-leb 0x20 b l, lt-leb 0x80 b (omega arith));
-      shown = rw (ne-eqb b 0x7F (omega arith), ne-eqb b 0xA0 (omega arith), ne-eqb b 0xFF (omega arith));
-    })
-    (λ h. let l : 0xA1 ≤ b = between-low 0xA1 b 0xFE h in let u : b ≤ 0xFE = between-high 0xA1 b 0xFE h in
-    record {
-      graphic-is = rw (le-leb 0x20 b (omega arith), lt-leb b 0x9F (omega arith), and-false (leb 0x80 b));
-      shown = rw (ne-eqb b 0x7F (omega arith), ne-eqb b 0xA0 (omega arith), ne-eqb b 0xFF (omega arith));
-    })
+    (λ h. let l = between-low 0x20 b 0x7E h in let u = between-high 0x20 b 0x7E h in
+    record { graphic-is = rw (le-leb 0x20 b l, lt-leb 0x80 b (omega arith)); shown = other (omega arith) })
+    (λ h. let l = between-low 0xA1 b 0xFE h in let u = between-high 0xA1 b 0xFE h in
+    record { graphic-is = rw (le-leb 0x20 b (omega arith), lt-leb b 0x9F (omega arith), and-false (leb 0x80 b)); shown = other (omega arith) })
+  where
+    other : (b ≡ 0x7F → ⊥) × (b ≡ 0xA0 → ⊥) × (b ≡ 0xFF → ⊥) → ((eqb b 0x7F || eqb b 0xA0) || eqb b 0xFF) ≡ false
+    other (x, y, z) = rw (ne-eqb b 0x7F x, ne-eqb b 0xA0 y, ne-eqb b 0xFF z)
 
 -- ---- what the byte does
 
@@ -97,18 +88,18 @@ character-is b e = or-cases (between 0x20 b 0x7E) (between 0xA1 b 0xFE) e
 abbrev pub advanced : Core → Core
 advanced c = withCursor c (advance (c .cursor) (rightStop c) (c .modes .autowrap))
 
+plain-ground : (c : Core) → printsDirectly c ≡ true → c .parser .phase ≡ Ground
+plain-ground c h = phase-same (c .parser .phase) Ground (and-left (isGround (c .parser .phase)) (isUnshifted (c .shift) && not (c .modes .insert)) h)
+
 module _ (c : Core) (b : ℕ) (plain : printsDirectly c ≡ true) (char : isCharacter b ≡ true) where
   ground : c .parser .phase ≡ Ground
-  ground = ground-is (c .parser .phase) (and-left (isGround (c .parser .phase)) (isUnshifted (c .shift) && not (c .modes .insert)) plain)
-
-  others : (isUnshifted (c .shift) && not (c .modes .insert)) ≡ true
-  others = and-right (isGround (c .parser .phase)) (isUnshifted (c .shift) && not (c .modes .insert)) plain
+  ground = plain-ground c plain
 
   unshifted : c .shift ≡ NoShift
-  unshifted = unshifted-is (c .shift) (and-left (isUnshifted (c .shift)) (not (c .modes .insert)) others)
+  unshifted = unshifted-is (c .shift) (search (and-left, and-right))
 
   no-insert : c .modes .insert ≡ false
-  no-insert = not-true (c .modes .insert) (and-right (isUnshifted (c .shift)) (not (c .modes .insert)) others)
+  no-insert = not-true (c .modes .insert) (search (and-left, and-right))
 
   -- it sends nothing
   put-silent : sends c b ≡ []
@@ -120,17 +111,11 @@ module _ (c : Core) (b : ℕ) (plain : printsDirectly c ≡ true) (char : isChar
 
   printed-put : printed c b ≡ put c (glyph c b)
   unfolding printed
-  printed-put =
-      ap (λ (t : Bool). cond t (unedited c) (put (withShift c NoShift) (glyph c b))) unskipped
-      ∙ ap (λ (x : SingleShift). put (withShift c x) (glyph c b)) (sym unshifted)
+  printed-put = rw unskipped (ap (λ (x : SingleShift). put (withShift c x) (glyph c b)) (sym unshifted))
 
   put-here : c .cursor .wrap ≡ false → put c (glyph c b) ≡ oneEdit (advanced c) (Put (c .cursor .row - 1) (c .cursor .column - 1) (glyph c b))
   unfolding put
-  put-here w =
-      ap (λ (t : Bool). printedIn c (cond t (printBelow (c .cursor) (c .margins) (c .rows) (c .modes) (stopsOf c) (glyph c b))
-      (printHere (c .modes) (stopsOf c) (c .cursor) (glyph c b)))) w
-      ∙ ap (λ (t : Bool). oneEdit (advanced c) (cond t (InsertCells (c .cursor .row - 1) (c .cursor .column - 1) (rightStop c) 1 (glyph c b))
-      (Put (c .cursor .row - 1) (c .cursor .column - 1) (glyph c b)))) no-insert
+  put-here w = rw (w, no-insert)
 
   put-decides : c .cursor .wrap ≡ false → oneEdit (advanced c) (Put (c .cursor .row - 1) (c .cursor .column - 1) (glyph c b)) ≡ decided c b
   put-decides w = sym (printed-put ∙ put-here w) ∙ plain-decides c b ground (character-is b char .graphic-is)
@@ -145,23 +130,18 @@ control-rule b l =
 control-decode : (s : Parser) (b : ℕ) → s .phase ≡ Ground → b < 0x18 → decode s b ≡ record { parser = s; action = Control b }
 unfolding decode
 control-decode s b e l =
-    ap (λ (t : Transition). record { parser = kept s (t .next) (t .op) b; action = actionOf s (t .op) b })
-    (ap (λ (p : Phase). transition p b) e ∙ control-rule b l)
-    ∙ ap (λ (p : Phase). record { parser = inPhase p s; action = Control b }) (sym e)
-
-plain-ground : (c : Core) → printsDirectly c ≡ true → c .parser .phase ≡ Ground
-plain-ground c h = ground-is (c .parser .phase) (and-left (isGround (c .parser .phase)) (isUnshifted (c .shift) && not (c .modes .insert)) h)
+    let is : transition (s .phase) b ≡ to Ground Execute = rw e (control-rule b l) in
+    rw is (ap (λ (p : Phase). record { parser = inPhase p s; action = Control b }) (sym e))
 
 control-decides : (c : Core) (b : ℕ) → printsDirectly c ≡ true → b < 0x18 → executed c (Control b) ≡ decided c b
 unfolding decided
-control-decides c b h l = sym (ap (λ (d : Decoded). executed (withParser c (d .parser)) (d .action)) (control-decode (c .parser) b (plain-ground c h) l))
+control-decides c b h l = rw (control-decode (c .parser) b (plain-ground c h) l)
 
 -- a control sends nothing
 control-silent : (c : Core) (b : ℕ) → printsDirectly c ≡ true → b < 0x18 → sends c b ≡ []
 unfolding sends replyBytes
 control-silent c b h l =
-    ap (λ (d : Decoded). replyBytes (c .modes .eightbit) (replyTo c (d .action))) (control-decode (c .parser) b (plain-ground c h) l)
-    ∙ ap (replyBytes (c .modes .eightbit)) (sym (reply-heard c (Control b)))
+    rw (control-decode (c .parser) b (plain-ground c h) l) (ap (replyBytes (c .modes .eightbit)) (sym (reply-heard c (Control b))))
 
 -- CR
 return-decides : (c : Core) → printsDirectly c ≡ true → oneEdit (withCursor c (toColumn (c .cursor) (leftStop c))) Keep ≡ decided c 0x0D
@@ -173,7 +153,8 @@ abbrev lineFeed : Core → Decision
 lineFeed c = oneEdit (withCursor c (index (lineStart c) (c .margins .bottom) (c .rows))) (indexEdit (c .margins) (stopsOf c) (lineStart c))
 
 fed-is : (c : Core) (t : Bool)
-    → (let u : Cursor = cond t (toColumn (c .cursor) (leftStop c)) (c .cursor) in oneEdit (withCursor c (index u (c .margins .bottom) (c .rows))) (indexEdit (c .margins) (stopsOf c) u))
+    → (let u : Cursor = cond t (toColumn (c .cursor) (leftStop c)) (c .cursor) in
+    oneEdit (withCursor c (index u (c .margins .bottom) (c .rows))) (indexEdit (c .margins) (stopsOf c) u))
     ≡ withWrapPolicy true (cond t (nextLined c) (indexed c))
 fed-is c true = refl
 fed-is c false = refl
@@ -182,10 +163,7 @@ line-bytes : (P : ℕ → Type 0) → P 0x0A → P 0x0B → P 0x0C → (b : ℕ)
 line-bytes P x y z b h =
     let l : 0x0A ≤ b = between-low 0x0A b 0x0C h in
     let u : b ≤ 0x0C = between-high 0x0A b 0x0C h in
-    at-number P b 0x0A x (λ n. at-number P b 0x0B y (λ m. at-number P b 0x0C z (λ k. absurd (none b l u n m k))))
-  where
-    none : (b : ℕ) → 0x0A ≤ b → b ≤ 0x0C → (b ≡ 0x0A → ⊥) → (b ≡ 0x0B → ⊥) → (b ≡ 0x0C → ⊥) → ⊥
-    none b l u n m k = omega arith
+    at-number P b 0x0A x (λ n. at-number P b 0x0B y (λ m. at-number P b 0x0C z (λ k. absurd (omega arith))))
 
 line-executes : (c : Core) (b : ℕ) → between 0x0A b 0x0C ≡ true → lineFeed c ≡ executed c (Control b)
 unfolding executed clearsWrap controlled
@@ -196,13 +174,12 @@ line-executes c =
 line-low : (b : ℕ) → between 0x0A b 0x0C ≡ true → b < 0x18
 line-low b e = let u : b ≤ 0x0C = between-high 0x0A b 0x0C e in omega arith
 
-line-decides : (c : Core) (b : ℕ) → printsDirectly c ≡ true → between 0x0A b 0x0C ≡ true
-    → oneEdit (withCursor c (index (lineStart c) (c .margins .bottom) (c .rows))) (indexEdit (c .margins) (stopsOf c) (lineStart c)) ≡ decided c b
-line-decides c b h e =
-    line-executes c b e ∙ control-decides c b h (line-low b e)
+line-decides : (c : Core) (b : ℕ) → printsDirectly c ≡ true → between 0x0A b 0x0C ≡ true → lineFeed c ≡ decided c b
+line-decides c b h e = line-executes c b e ∙ control-decides c b h (line-low b e)
 
 -- its scroll stays on the page
-pub line-within : (c : Core) (b : ℕ) → Whole c → printsDirectly c ≡ true → between 0x0A b 0x0C ≡ true → Within (c .rows) (indexEdit (c .margins) (stopsOf c) (lineStart c))
+pub line-within : (c : Core) (b : ℕ) → Whole c → printsDirectly c ≡ true → between 0x0A b 0x0C ≡ true
+    → Within (c .rows) (indexEdit (c .margins) (stopsOf c) (lineStart c))
 line-within c b w h e = subst (λ (d : Decision). Within (c .rows) (d .first)) (sym (line-decides c b h e)) (decided-sound c b w .first)
 
 pub start-row : (t : Bool) (u : Cursor) (left : ℕ) → (cond t (toColumn u left) u) .row ≡ u .row

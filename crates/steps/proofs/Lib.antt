@@ -1,4 +1,4 @@
 pub mod StepLaws
 pub mod ByteLaws
-pub mod SpanLaws
+pub mod SpannedLaws
 pub mod CharacterLaws

@@ -1,6 +1,6 @@
 -- Bytes one after the other: the laws of a run over appended input, and what a step keeps.
-use mathlib.Core.Path.{_≡_, refl, sym, ap, _∙_, subst}
-use mathlib.Core.Bool.{Bool, true, false, cond, _||_, or-false}
+use mathlib.Core.Path.{_≡_, refl, sym, ap, _∙_}
+use mathlib.Core.Bool.{_||_, or-false}
 use mathlib.Core.List.{List, [], _∷_, _++_, append-assoc}
 use Prim.Native.Nat.{ℕ, suc, _+_, _-_, _*_, _^_, _≤_, _<_, zero-le}
 use native.Mathlib.Omega.{arith}
@@ -17,8 +17,9 @@ use Rattle.page.specs.Edits.{applied, Within}
 use Rattle.cells.proofs.Differing.{differs-self}
 use Rattle.cells.proofs.BitLaws.{bits-ext, bits-own, added-lt}
 use Rattle.cells.proofs.RowLaws.{changed-in}
+use Rattle.ground.proofs.TestLaws.{either}
 use Rattle.page.proofs.EditLaws.{keep-applied, length-applied}
-use Rattle.vt.specs.declared.core.Core.{Core}
+use Rattle.core.specs.declared.Core.{Core}
 use Rattle.dispatch.specs.Decide.{decided, sends}
 use Rattle.wholeness.proofs.Decisions.{Sound}
 use Rattle.wholeness.proofs.Sound.{decided-sound}
@@ -32,17 +33,10 @@ unfolding ran
 ran-append d [] ys = refl
 ran-append d (x ∷ xs) ys = ran-append (stepped d x) xs ys
 
-pub core-append : (c : Core) (xs ys : List ℕ) → ranCore c (xs ++ ys) ≡ ranCore (ranCore c xs) ys
-unfolding ranCore
-core-append c [] ys = refl
-core-append c (x ∷ xs) ys = core-append (decided c x .core) xs ys
-
 pub sent-append : (c : Core) (xs ys : List ℕ) → sent c (xs ++ ys) ≡ sent c xs ++ sent (ranCore c xs) ys
 unfolding sent ranCore
 sent-append c [] ys = refl
-sent-append c (x ∷ xs) ys =
-    ap (λ (l : List ℕ). sends c x ++ l) (sent-append (decided c x .core) xs ys)
-    ∙ sym (append-assoc (sends c x) (sent (decided c x .core) xs) (sent (ranCore (decided c x .core) xs) ys))
+sent-append c (x ∷ xs) ys = rw (sent-append (decided c x .core) xs ys, append-assoc)
 
 pub stepped-core : (d : Screen) (b : ℕ) → stepped d b .core ≡ decided (d .core) b .core
 unfolding stepped acted
@@ -65,19 +59,13 @@ pub readable-full : (room : ℕ) (c : Core) (b : ℕ) (bs : List ℕ) → room <
 unfolding readable
 readable-full room c b bs h = rw (lt-ltb room (length (sends c b)) h)
 
-fits-case : (room : ℕ) (c : Core) (b : ℕ) (bs : List ℕ) (t : Bool) → ltb room (length (sends c b)) ≡ t
-    → length (sent (decided c b .core) (take (readable (room - length (sends c b)) (decided c b .core) bs) bs)) ≤ room - length (sends c b)
-    → length (sent c (take (readable room c (b ∷ bs)) (b ∷ bs))) ≤ room
-unfolding sent readable
-fits-case room c b bs true e h = rw e zero-le
-fits-case room c b bs false e h = let l = ltb-false room (length (sends c b)) e in rw e (rw length-append (omega arith))
-
 -- what is sent fits
 pub sent-fits : (room : ℕ) (c : Core) (bs : List ℕ) → length (sent c (take (readable room c bs) bs)) ≤ room
 unfolding sent readable
 sent-fits room c [] = zero-le
 sent-fits room c (b ∷ bs) =
-    fits-case room c b bs (ltb room (length (sends c b))) refl (sent-fits (room - length (sends c b)) (decided c b .core) bs)
+    either (λ (k : ℕ). length (sent c (take k (b ∷ bs))) ≤ room) (ltb room (length (sends c b))) (λ _. zero-le)
+    (λ e. let l = ltb-false room (length (sends c b)) e in rw length-append (omega (arith, sent-fits (room - length (sends c b)) (decided c b .core) bs)))
 
 -- all is read where all that is sent fits
 pub reads-all : (room : ℕ) (c : Core) (bs : List ℕ) → length (sent c bs) ≤ room → readable room c bs ≡ length bs
@@ -92,12 +80,9 @@ reads-all room c (b ∷ bs) h =
 pub readable-most : (room : ℕ) (c : Core) (bs : List ℕ) → readable room c bs ≤ length bs
 unfolding readable
 readable-most room c [] = zero-le
-readable-most room c (b ∷ bs) = go (ltb room (length (sends c b))) (readable-most (room - length (sends c b)) (decided c b .core) bs)
-  where
-    go : (t : Bool) → readable (room - length (sends c b)) (decided c b .core) bs ≤ length bs
-        → cond t 0 (suc (readable (room - length (sends c b)) (decided c b .core) bs)) ≤ suc (length bs)
-    go true h = zero-le
-    go false h = omega arith
+readable-most room c (b ∷ bs) =
+    either (λ (k : ℕ). k ≤ suc (length bs)) (ltb room (length (sends c b))) (λ _. zero-le)
+    (λ _. omega (arith, readable-most (room - length (sends c b)) (decided c b .core) bs))
 
 -- ---- one step
 
@@ -108,35 +93,29 @@ added-none r m p l =
     bits-ext r (λ k. hasBit m k || changed p p k) (hasBit m) (λ k h. rw (differs-self (row p k)) (or-false (hasBit m k)))
     ∙ bits-own r m l
 
--- what a step makes, whether it edits the page or not
+-- what holds where nothing is edited, and of every edit that is made, holds of a step
+by-edit : (r : ℕ) (m : Marked) (P : Edit → Marked → Type 0) → P Keep m
+    → ((e : Edit) → let q = applied r e (m .page) in P e (record { page = q; changed = added r (m .changed) (changedIn r (m .page) q) }))
+    → (e : Edit) → P e (edited r e m)
+by-edit r m P k f Keep = k
+by-edit r m P k f (Put a b c) = f (Put a b c)
+by-edit r m P k f (InsertCells a b c d w) = f (InsertCells a b c d w)
+by-edit r m P k f (DeleteCells a b c d) = f (DeleteCells a b c d)
+by-edit r m P k f (ScrollUp a b c d n) = f (ScrollUp a b c d n)
+by-edit r m P k f (ScrollDown a b c d n) = f (ScrollDown a b c d n)
+by-edit r m P k f (Fill a b c) = f (Fill a b c)
+by-edit r m P k f (SelectiveErase a b) = f (SelectiveErase a b)
+
 pub edited-page : (r : ℕ) (e : Edit) (m : Marked) → length (m .page) ≡ 80 * r → edited r e m .page ≡ applied r e (m .page)
-edited-page r Keep m h = sym (keep-applied r (m .page) h)
-edited-page r (Put a b c) m h = refl
-edited-page r (InsertCells a b c d f) m h = refl
-edited-page r (DeleteCells a b c d) m h = refl
-edited-page r (ScrollUp a b c d f) m h = refl
-edited-page r (ScrollDown a b c d f) m h = refl
-edited-page r (Fill a b c) m h = refl
-edited-page r (SelectiveErase a b) m h = refl
-
-abbrev rowsAdded : ℕ → Edit → Marked → ℕ
-rowsAdded r e m = added r (m .changed) (changed (m .page) (applied r e (m .page)))
-
-edited-other : (r : ℕ) (e : Edit) (m : Marked) → length (m .page) ≡ 80 * r → Within r e
-    → added r (m .changed) (changedIn r (m .page) (applied r e (m .page))) ≡ rowsAdded r e m
-edited-other r e m h w = ap (added r (m .changed)) (changed-in r (m .page) (applied r e (m .page)) h (length-applied r e (m .page) h w))
+edited-page r e m h = by-edit r m (λ e x. x .page ≡ applied r e (m .page)) (sym (keep-applied r (m .page) h)) (λ e. refl) e
 
 pub edited-changed : (r : ℕ) (e : Edit) (m : Marked) → length (m .page) ≡ 80 * r → m .changed < 2 ^ r → Within r e
     → edited r e m .changed ≡ added r (m .changed) (changed (m .page) (applied r e (m .page)))
-edited-changed r Keep m h l w =
-    sym (ap (λ (q : List ℕ). added r (m .changed) (changed (m .page) q)) (keep-applied r (m .page) h) ∙ added-none r (m .changed) (m .page) l)
-edited-changed r (Put a b c) m h l w = edited-other r (Put a b c) m h w
-edited-changed r (InsertCells a b c d f) m h l w = edited-other r (InsertCells a b c d f) m h w
-edited-changed r (DeleteCells a b c d) m h l w = edited-other r (DeleteCells a b c d) m h w
-edited-changed r (ScrollUp a b c d f) m h l w = edited-other r (ScrollUp a b c d f) m h w
-edited-changed r (ScrollDown a b c d f) m h l w = edited-other r (ScrollDown a b c d f) m h w
-edited-changed r (Fill a b c) m h l w = edited-other r (Fill a b c) m h w
-edited-changed r (SelectiveErase a b) m h l w = edited-other r (SelectiveErase a b) m h w
+edited-changed r e m h l w =
+    by-edit r m (λ e x. Within r e → x .changed ≡ added r (m .changed) (changed (m .page) (applied r e (m .page))))
+    (λ _. sym (ap (λ (q : List ℕ). added r (m .changed) (changed (m .page) q)) (keep-applied r (m .page) h) ∙ added-none r (m .changed) (m .page) l))
+    (λ e v. ap (added r (m .changed)) (changed-in r (m .page) (applied r e (m .page)) h (length-applied r e (m .page) h v)))
+    e w
 
 -- ---- a byte
 
@@ -151,7 +130,7 @@ record MarkedFits (r : ℕ) (m : Marked) : Type 0 where
 marked-edited : (r : ℕ) (e : Edit) (m : Marked) → MarkedFits r m → Within r e → MarkedFits r (edited r e m)
 marked-edited r e m b w = record {
   size = ap length (edited-page r e m (b .size)) ∙ length-applied r e (m .page) (b .size) w;
-  few = subst (λ (x : ℕ). x < 2 ^ r) (sym (edited-changed r e m (b .size) (b .few) w)) (added-lt r (m .changed) (changed (m .page) (applied r e (m .page))));
+  few = rw (edited-changed r e m (b .size) (b .few) w) (added-lt r (m .changed) (changed (m .page) (applied r e (m .page))));
 }
 
 module _ (d : Screen) (b : ℕ) (k : ReadyAt d) where

@@ -3,8 +3,8 @@ use mathlib.Core.List.{List}
 use mathlib.Core.Path.{_≡_}
 use Prim.Native.Nat.{ℕ, _*_}
 use lib.ListN.{length}
-use Rattle.vt.specs.declared.core.Core.{Core}
-use Rattle.vt.specs.Whole.{Whole}
+use Rattle.core.specs.declared.Core.{Core}
+use Rattle.core.specs.Whole.{Whole}
 use Rattle.steps.specs.declared.State.{State}
 use Rattle.steps.specs.Whole.{WholeState}
 

@@ -7,15 +7,15 @@ use lib.ListN.{length}
 use Rattle.parser.specs.declared.parser.Parser.{Parser}
 use Rattle.ground.specs.Tests.{between}
 use Rattle.parser.specs.Phases.{isGround}
-use Rattle.parser.specs.Idle.{span}
+use Rattle.ground.specs.Spans.{span}
 use Rattle.device.specs.declared.charsets.SingleShift.{SingleShift}
 use Rattle.device.specs.declared.charsets.SingleShift.the-variants.{NoShift, Ss2, Ss3}
 use Rattle.device.specs.declared.cursor.Cursor.{Cursor}
 use Rattle.device.specs.Cursor.{toColumn}
-use Rattle.vt.specs.declared.core.Core.{Core}
+use Rattle.core.specs.declared.Core.{Core}
 use Rattle.dispatch.specs.Decide.{sends}
-use Rattle.vt.specs.Geometry.{leftStop}
-use Rattle.vt.specs.Effects.{withCursor, withParser}
+use Rattle.core.specs.Geometry.{leftStop}
+use Rattle.core.specs.Effects.{withCursor, withParser}
 use Rattle.steps.specs.declared.State.{State}
 use Rattle.steps.specs.declared.characters.Characters.{Characters}
 use Rattle.steps.specs.Steps.{screen, acted, ran, sent}

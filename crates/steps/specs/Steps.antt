@@ -8,7 +8,7 @@ use lib.ListN.{length}
 use Rattle.page.specs.declared.Edit.{Edit}
 use Rattle.cells.specs.Sets.{added, changedIn}
 use Rattle.page.specs.Edits.{applied, isKeep}
-use Rattle.vt.specs.declared.core.Core.{Core}
+use Rattle.core.specs.declared.Core.{Core}
 use Rattle.dispatch.specs.Decide.{decided, sends}
 use Rattle.steps.specs.declared.State.{State}
 use Rattle.steps.specs.declared.Tracked.{Tracked}

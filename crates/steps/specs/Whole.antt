@@ -5,7 +5,7 @@ use mathlib.Core.List.{List}
 use Prim.Native.Nat.{ℕ, _*_, _^_, _<_}
 use lib.Dec.{eqb, ltb}
 use lib.ListN.{length}
-use Rattle.vt.specs.Whole.{sized, wholeCore, Whole}
+use Rattle.core.specs.Whole.{sized, wholeCore, Whole}
 use Rattle.steps.specs.declared.State.{State}
 
 -- no changed row above R

@@ -1,8 +1,8 @@
 // One byte that is decoded: what it asks for is executed, and its edits are applied.
+use core::Core;
 use dispatch::decide::execute;
 use page::edits::apply;
 use parser::parser::Decoded;
-use vt::core::Core;
 ghost use mathlib.Core.Path.{_≡_};
 ghost use Rattle.parser.specs.Parser.{decode};
 ghost use Rattle.steps.specs.Steps.{acted};

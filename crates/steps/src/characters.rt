@@ -1,15 +1,15 @@
 // Characters and the ends of lines: they are done at once, as long as nothing but the cursor moves.
 use crate::Tracked;
+use core::Core;
+use core::geometry::left_stop;
+use core::geometry::right_stop;
+use core::geometry::stops_of;
 use device::charsets::SingleShift;
 use device::cursor::Cursor;
 use ground::tests::between;
 use page::edits::apply;
 use page::edits::put;
 use parser::phases::is_ground;
-use vt::core::Core;
-use vt::geometry::left_stop;
-use vt::geometry::right_stop;
-use vt::geometry::stops_of;
 use vt::printing::glyph;
 use vt::printing::index_edit;
 ghost use mathlib.Core.Path.{_≡_};
@@ -18,7 +18,7 @@ ghost use Prim.Native.Nat.{_≤_};
 ghost use lib.ListN.{length};
 ghost use Rattle.ground.specs.Tests as tests;
 ghost use Rattle.device.specs.Cursor.{toColumn};
-ghost use Rattle.vt.specs.Effects.{withCursor};
+ghost use Rattle.core.specs.Effects.{withCursor};
 ghost use Rattle.steps.specs.Ready.{Ready};
 ghost use Rattle.steps.specs.Spans.{isCharacter, isUnshifted, printsDirectly, Direct, Moves, moved, Spanned};
 

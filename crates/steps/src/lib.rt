@@ -1,5 +1,5 @@
 // The state, a byte's step or steps, and characters that are done at once.
-use vt::core::Core;
+use core::Core;
 ghost use mathlib.Core.Path.{_≡_};
 ghost use Rattle.steps.specs.Steps.{noted};
 

@@ -1,16 +1,21 @@
 -- Each call's definition, by case.
-use mathlib.Core.Path.{_≡_, refl, sym, ap, _∙_, subst}
-use mathlib.Core.Bool.{Bool, true, false, cond, false≢true}
-use mathlib.Core.List.{List}
-use Prim.Native.Nat.{ℕ, _*_, _^_}
+use mathlib.Core.Path.{_≡_, refl, sym, ap, _∙_}
+use mathlib.Core.Bool.{Bool, true, false, cond, not, false≢true, true≢false}
+use mathlib.Core.List.{List, [], _∷_}
+use Prim.Native.Nat.{ℕ, _*_, _^_, _≤_}
+use native.Mathlib.Omega.{arith}
 use lib.Dec.{eqb, ltb}
 use lib.ListN.{length}
-use borrow.Author.Tests.{eq-eqb, ne-eqb, eqb-true, eqb-false, ltb-true, lt-ltb}
-use Rattle.vt.specs.Bounds.{OnPage}
-use Rattle.vt.specs.Whole.{wholeCore}
+use borrow.Author.Tests.{eq-eqb, ne-eqb, eqb-true, eqb-false, ltb-true, lt-ltb, not-false}
+use Rattle.core.specs.declared.Core.{Core}
+use Rattle.core.specs.Bounds.{OnPage}
+use Rattle.core.specs.Whole.{sized, wholeCore, Whole}
 use Rattle.ground.specs.Tests.{between}
 use Rattle.ground.proofs.TestLaws.{and-left, and-right, and-both}
-use Rattle.wholeness.proofs.Wholeness.{placed, core-sized, facts, tested}
+use Rattle.wholeness.proofs.Wholeness.{placed, sized-rows, core-sized, facts, tested}
+use Rattle.wholeness.proofs.ReplyLength.{sends-short}
+use Rattle.steps.specs.Steps.{readable}
+use Rattle.steps.proofs.StepLaws.{readable-fits}
 use Rattle.steps.specs.declared.State.{State}
 use Rattle.feeding.specs.Bytes.{Feeding, readCount, bytesFed}
 use Rattle.terminal.specs.declared.Answer.{Answer}
@@ -18,7 +23,7 @@ use Rattle.terminal.specs.declared.Answer.the-variants.{Done, Broken, Wr
 use Rattle.terminal.specs.Answers.{number, refusal}
 use Rattle.steps.specs.Whole.{wholeState, WholeState}
 use Rattle.terminal.specs.Start.{startAnswer, startGives, started}
-use Rattle.terminal.specs.Feed.{Feed, fitting, feedAs, feedFirst, feedRefused, feedGives, fed}
+use Rattle.terminal.specs.Feed.{fitting, feedAs, feedFirst, feedRefused, feedGives, fed, Untouched}
 use Rattle.terminal.specs.Ask.{askDone, askRefused, asked}
 use Rattle.terminal.specs.Read.{onPage, readAnswer, readGives, cellRead}
 
@@ -56,16 +61,16 @@ module _ (s : State) (p i o : List ℕ) where
   fitting-gives true = refl
   fitting-gives false = refl
 
-  pub fed-run : wholeState s ≡ true → length p ≡ 80 * s .core .rows → fed s p i o ≡ feedFirst (fitting s i o) (readCount s i o) s p i o
+  pub fed-processed : wholeState s ≡ true → length p ≡ 80 * s .core .rows → fed s p i o ≡ feedFirst (fitting s i o) (readCount s i o) s p i o
   unfolding fed
-  fed-run e h = rw (e, eq-eqb _ _ h) (fitting-gives (ltb (readCount s i o) (length i)))
+  fed-processed e h = rw (e, eq-eqb _ _ h) (fitting-gives (ltb (readCount s i o) (length i)))
 
   -- what the loop over the input leaves, with its answer
   pub fed-bytes : (f : Feeding) → f ≡ bytesFed s p i o → wholeState s ≡ true → length p ≡ 80 * s .core .rows
       → feedAs (cond (f .result .full) NoRoom Done) (f .result .read) (f .result .replied) (f .result .state) (f .page) (f .reply) ≡ fed s p i o
   fed-bytes f e w h =
       ap (λ (x : Feeding). feedAs (cond (x .result .full) NoRoom Done) (x .result .read) (x .result .replied) (x .result .state) (x .page) (x .reply)) e
-      ∙ sym (fed-run w h)
+      ∙ sym (fed-processed w h)
 
   -- which of the three it is
   pub fed-cases : {C : Type 0} → (wholeState s ≡ false → C) → (wholeState s ≡ true → (length p ≡ 80 * s .core .rows → ⊥) → C)
@@ -77,56 +82,45 @@ module _ (s : State) (p i o : List ℕ) where
       go true e false g = size e (eqb-false (length p) (80 * s .core .rows) g)
       go false e u g = broken e
 
-pub true≢false : true ≡ false → ⊥
-true≢false e = false≢true (sym e)
+pub fitting-refusal : (t : Bool) → refusal (cond t NoRoom Done) ≡ false
+fitting-refusal true = refl
+fitting-refusal false = refl
 
-pub run-refusal : (t : Bool) → refusal (cond t NoRoom Done) ≡ false
-run-refusal true = refl
-run-refusal false = refl
-
-pub run-number : (t : Bool) → number (cond t NoRoom Done) ≡ cond t 3 0
-run-number true = refl
-run-number false = refl
+pub fitting-number : (t : Bool) → number (cond t NoRoom Done) ≡ cond t 3 0
+fitting-number true = refl
+fitting-number false = refl
 
 -- a feeding that is not refused was given a whole state and a page of its size
 pub record Taken (s : State) (p : List ℕ) : Type 0 where
   pub whole : wholeState s ≡ true
   pub size : length p ≡ 80 * s .core .rows
 
-pub record Left (s : State) (p o : List ℕ) (f : Feed) : Type 0 where
-  pub read : f .result .read ≡ 0
-  pub replied : f .result .replied ≡ 0
-  pub state : f .result .state ≡ s
-  pub page : f .page ≡ p
-  pub reply : f .reply ≡ o
-
 module _ (s : State) (p i o : List ℕ) where
-  answer-by : (f : Feed) → fed s p i o ≡ f → (t : Bool) → refusal (fed s p i o .result .answer) ≡ t → refusal (f .result .answer) ≡ t
-  answer-by f e t h = subst (λ (a : Feed). refusal (a .result .answer) ≡ t) e h
-
   pub fed-taken : refusal (fed s p i o .result .answer) ≡ false → Taken s p
   fed-taken h =
       fed-cases s p i o
-      (λ e. absurd (true≢false (answer-by (feedRefused Broken s p o) (fed-broken s p i o e) false h)))
-      (λ e n. absurd (true≢false (answer-by (feedRefused WrongSize s p o) (fed-size s p i o e n) false h)))
+      (λ e. absurd (true≢false (rw (fed-broken s p i o e) at h)))
+      (λ e n. absurd (true≢false (rw (fed-size s p i o e n) at h)))
       (λ e n. record { whole = e; size = n })
 
-  -- a refused one reads nothing, sends nothing, and leaves everything as it came
-  pub fed-left : refusal (fed s p i o .result .answer) ≡ true → Left s p o (fed s p i o)
+  pub fed-left : refusal (fed s p i o .result .answer) ≡ true → Untouched s p o (fed s p i o)
   fed-left h =
       fed-cases s p i o
-      (λ e. left-as Broken (fed-broken s p i o e))
-      (λ e n. left-as WrongSize (fed-size s p i o e n))
-      (λ e n. absurd (false≢true (sym (run-refusal (ltb (readCount s i o) (length i)))
-      ∙ answer-by (feedFirst (fitting s i o) (readCount s i o) s p i o) (fed-run s p i o e n) true h)))
-    where
-      left-as : (a : Answer) → fed s p i o ≡ feedRefused a s p o → Left s p o (fed s p i o)
-      left-as a e = rw e (record { read = refl; replied = refl; state = refl; page = refl; reply = refl })
+      (λ e. rw (fed-broken s p i o e) (record { read = refl; replied = refl; state = refl; page = refl; reply = refl }))
+      (λ e n. rw (fed-size s p i o e n) (record { read = refl; replied = refl; state = refl; page = refl; reply = refl }))
+      (λ e n. absurd (false≢true (sym (fitting-refusal (ltb (readCount s i o) (length i))) ∙ rw (fed-processed s p i o e n) at h)))
+
+-- with room for a reply, one byte at least is read
+pub reads-one : (room : ℕ) (c : Core) (bs : List ℕ) → Whole c → 1 ≤ length bs → 11 ≤ room → 1 ≤ readable room c bs
+reads-one room c [] w l h = absurd (omega arith)
+reads-one room c (b ∷ bs) w l h = rw (readable-fits room c b bs (omega (arith, sends-short c w b))) (omega arith)
 
 -- ---- asking and reading
 
-pub on-page : (rows r c : ℕ) → onPage rows r c ≡ true → OnPage rows r c
-on-page rows r c e = placed rows r c (and-left (between 1 r rows) (between 1 c 80) e) (and-right (between 1 r rows) (between 1 c 80) e)
+pub on-page : (s : State) (r c : ℕ) → onPage (s .core .rows) r c ≡ true → OnPage (s .core .rows) r c
+on-page s r c e =
+    let rows = s .core .rows in
+    placed rows r c (and-left (between 1 r rows) (between 1 c 80) e) (and-right (between 1 r rows) (between 1 c 80) e)
 
 pub asked-done : (s : State) → wholeState s ≡ true → asked s ≡ askDone s
 unfolding asked
@@ -148,6 +142,9 @@ unfolding cellRead
 read-as s p r c a e = ap (λ (x : Answer). readGives x p r c) e
 
 -- ---- the start
+
+pub few-rows : (r : ℕ) → not (sized r) ≡ false → r ≤ 48
+few-rows r e = sized-rows r (not-false (sized r) e) .high
 
 pub started-as : (r : ℕ) (p : List ℕ) (a : Answer) → startAnswer r p ≡ a → started r p ≡ startGives a r p
 unfolding started

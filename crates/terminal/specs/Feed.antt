@@ -1,6 +1,7 @@
 -- Feeding bytes: the whole result, and what is left in the page and the reply buffer.
 use mathlib.Core.Bool.{cond}
 use mathlib.Core.List.{List}
+use mathlib.Core.Path.{_≡_}
 use Prim.Native.Nat.{ℕ}
 use lib.Dec.{ltb}
 use lib.ListN.{length, take}
@@ -55,3 +56,11 @@ feedGives OffPage s p i o = feedRefused OffPage s p o
 -- a state, a page, the input and a reply buffer
 unfoldable pub fed : State → List ℕ → List ℕ → List ℕ → Feed
 fed s p i o = feedGives (feedAnswer s p i o) s p i o
+
+-- a feeding that reads nothing, sends nothing, and leaves page, reply buffer and state as they came
+pub record Untouched (s : State) (p o : List ℕ) (f : Feed) : Type 0 where
+  pub read : f .result .read ≡ 0
+  pub replied : f .result .replied ≡ 0
+  pub state : f .result .state ≡ s
+  pub page : f .page ≡ p
+  pub reply : f .reply ≡ o

@@ -4,8 +4,8 @@ use mathlib.Core.List.{List}
 use Prim.Native.Nat.{ℕ, _*_}
 use lib.ListN.{replicate}
 use Rattle.cells.specs.Cells.{blank}
-use Rattle.vt.specs.Whole.{sized}
-use Rattle.vt.specs.Fresh.{freshCore}
+use Rattle.core.specs.Whole.{sized}
+use Rattle.core.specs.Fresh.{freshCore}
 use Rattle.steps.specs.declared.State.{State}
 use Rattle.terminal.specs.declared.Started.{Started}
 use Rattle.terminal.specs.declared.Answer.{Answer}

@@ -7,7 +7,7 @@ pub fn is_whole(state: State) -> bool
     ensures { λ r. ⌜ r ≡ wholeState state ⌝ }
 {
     let core = state.core;
-    if vt::whole::is_whole(core) {
+    if core::whole::is_whole(core) {
         let rows = core.rows;
         state.tracked.changed < 1u64 << rows
     } else {

@@ -1,5 +1,5 @@
 -- UTF-8: the bytes of a code point in each of the three ranges, and of the signs of some cells.
-use mathlib.Core.Path.{_≡_, refl, sym, ap, _∙_}
+use mathlib.Core.Path.{_≡_, refl}
 use mathlib.Core.List.{List, [], _∷_, _++_, append-nil, append-assoc, map}
 use Prim.Native.Nat.{ℕ, zero, suc, _+_, _*_, _/_, _%_, _≤_, _<_}
 use native.Mathlib.Omega.{arith}
@@ -24,27 +24,23 @@ three-bytes x l = rw (le-ltb x 0x80 (omega arith), le-ltb x 0x800 l)
 encoded-append : (xs ys : List ℕ) → encoded (xs ++ ys) ≡ encoded xs ++ encoded ys
 unfolding encoded
 encoded-append [] ys = refl
-encoded-append (x ∷ xs) ys = ap (λ (l : List ℕ). utf8 x ++ l) (encoded-append xs ys) ∙ sym (append-assoc (utf8 x) (encoded xs) (encoded ys))
+encoded-append (x ∷ xs) ys = rw (encoded-append xs ys, append-assoc (utf8 x))
 
 -- one cell more
 pub encoded-more : (r : List ℕ) (i : ℕ) → i < length r → encoded (map sign (take (i + 1) r)) ≡ encoded (map sign (take i r)) ++ utf8 (sign (getD r i 0))
 unfolding encoded
-encoded-more r i h =
-    ap encoded (signs-more r i h)
-    ∙ encoded-append (map sign (take i r)) (sign (getD r i 0) ∷ [])
-    ∙ ap (λ (l : List ℕ). encoded (map sign (take i r)) ++ l) (append-nil (utf8 (sign (getD r i 0))))
+encoded-more r i h = rw (signs-more r i h, encoded-append (map sign (take i r)), append-nil)
 
 pub encoded-more-length : (r : List ℕ) (i : ℕ) → i < length r
     → length (encoded (map sign (take (i + 1) r))) ≡ length (encoded (map sign (take i r))) + length (utf8 (sign (getD r i 0)))
-encoded-more-length r i h = ap length (encoded-more r i h) ∙ length-append (encoded (map sign (take i r))) (utf8 (sign (getD r i 0)))
+encoded-more-length r i h = rw (encoded-more r i h, length-append)
 
 -- the first cells take no more than all
 pub encoded-part : (n : ℕ) (r : List ℕ) → length (encoded (map sign (take n r))) ≤ length (encoded (map sign r))
 unfolding encoded
 encoded-part zero r = omega arith
 encoded-part (suc n) [] = omega arith
-encoded-part (suc n) (x ∷ r) =
-    omega (arith, encoded-part n r, length-append (utf8 (sign x)) (encoded (map sign (take n r))), length-append (utf8 (sign x)) (encoded (map sign r)))
+encoded-part (suc n) (x ∷ r) = simp length-append (omega (arith, encoded-part n r))
 
 pub utf8-short : (x : ℕ) → length (utf8 x) ≤ 3
 utf8-short x =
@@ -54,7 +50,7 @@ utf8-short x =
 pub encoded-short : (xs : List ℕ) → length (encoded xs) ≤ 3 * length xs
 unfolding encoded
 encoded-short [] = omega arith
-encoded-short (x ∷ xs) = omega (arith, encoded-short xs, utf8-short x, length-append (utf8 x) (encoded xs))
+encoded-short (x ∷ xs) = simp length-append (omega (arith, encoded-short xs, utf8-short x))
 
 pub signs-short : (r : List ℕ) (n : ℕ) → length (encoded (map sign (take n r))) ≤ 3 * n
 signs-short r n = omega (arith, encoded-short (map sign (take n r)), length-map (take n r) sign, length-take n r)

@@ -24,7 +24,8 @@ pub spaces : textOf 1 (0x20 ∷ 0x41 ∷ 0x20 ∷ 0x0220 ∷ replicate 76 0x20) 
 unfolding unpacked sign trimmed encoded lines textOf
 spaces = refl
 
--- SUB's sign in any set, Supplemental, é of Latin-1, a line-drawing corner, pi, the first and the last of the table, and codes that no printing puts into a cell
+-- SUB's sign in any set, Supplemental, é of Latin-1, a line-drawing corner, pi, the first and the last of the table, and codes that no printing puts into a
+-- cell
 pub signs :
     encoded (sign 0x001A ∷ sign 0x019A ∷ sign 0x0161 ∷ sign 0x01E9 ∷ sign 0x00EC ∷ sign 0x00FB ∷ sign 0x00DF ∷ sign 0x00FE ∷ sign 0x0007 ∷ sign 0x00FF ∷ [])
     ≡ 0xE2 ∷ 0x90 ∷ 0xA6 ∷ 0xE2 ∷ 0x90 ∷ 0xA6 ∷ 0x3F ∷ 0xC3 ∷ 0xA9 ∷ 0xE2 ∷ 0x94 ∷ 0x8C ∷ 0xCF ∷ 0x80 ∷ 0xC2 ∷ 0xA0 ∷ 0xC2 ∷ 0xB7 ∷ 0x3F ∷ 0x3F ∷ []

@@ -1,6 +1,6 @@
 -- The text of a page of n rows has n lines: the sign of a cell is never 0A.
-use mathlib.Core.Path.{_≡_, refl, sym, ap, _∙_}
-use mathlib.Core.Bool.{Bool, true, false, cond, _&&_, _||_}
+use mathlib.Core.Path.{_≡_, refl}
+use mathlib.Core.Bool.{Bool, true, _&&_, _||_}
 use mathlib.Core.List.{List, [], _∷_, _++_, map}
 use mathlib.Core.Logic.{⊎-elim}
 use Prim.Native.Nat.{ℕ, zero, suc, _+_, _-_, _/_, _%_, _≤_, _<_}
@@ -13,8 +13,8 @@ use Rattle.cells.specs.declared.CharSet.the-variants.{Ascii, SpecialGraphics, S
 use Rattle.cells.specs.Cells.{unpacked}
 use Rattle.cells.specs.Rows.{rowsOf}
 use Rattle.ground.proofs.ListLaws.{split-lt}
-use Rattle.ground.proofs.TestLaws.{and-left, and-right}
-use Rattle.text.specs.Text.{lineDrawing, unshown, shownCode, graphicSign, signIn, sign, utf8, trimmed, encoded, line, lines, textOf, lineCount}
+use Rattle.ground.proofs.TestLaws.{and-left, and-right, or-left, or-right, either}
+use Rattle.text.specs.Text.{lineDrawing, shownCode, graphicSign, signIn, sign, utf8, trimmed, encoded, line, lines, textOf, lineCount}
 use Rattle.text.proofs.Trimming.{left-signs}
 use Rattle.text.proofs.Encoding.{one-byte, two-bytes, three-bytes}
 
@@ -31,23 +31,17 @@ at f (x ∷ xs) e zero h = and-left (f x) (every f xs) e
 at f (x ∷ xs) e (suc k) h = at f xs (and-right (f x) (every f xs) e) k (omega arith)
 
 code-shown : (x : ℕ) → 0x20 ≤ shownCode x
-code-shown x = go (ltb x 0x20) (eqb x 0x7F) refl
-  where
-    go : (a b : Bool) → ltb x 0x20 ≡ a → 0x20 ≤ cond (a || b) unshown x
-    go true b e = omega arith
-    go false true e = omega arith
-    go false false e = ltb-false x 0x20 e
+code-shown x =
+    either (λ (y : ℕ). 0x20 ≤ y) (ltb x 0x20 || eqb x 0x7F) (λ e. omega arith) (λ e. ltb-false x 0x20 (or-left (ltb x 0x20) (eqb x 0x7F) e))
 
 graphic-shown : (x : ℕ) → x < 0x80 → 0x20 ≤ graphicSign x
-graphic-shown x h = go (ltb x 0x5F) (eqb x 0x7F) refl refl
-  where
-    table : x - 0x5F < 32 → 0x20 ≤ getD lineDrawing (x - 0x5F) 0
-    table l = leb-true 0x20 (getD lineDrawing (x - 0x5F) 0) (at (leb 0x20) lineDrawing refl (x - 0x5F) l)
-
-    go : (a b : Bool) → ltb x 0x5F ≡ a → eqb x 0x7F ≡ b → 0x20 ≤ cond (a || b) (shownCode x) (getD lineDrawing (x - 0x5F) 0)
-    go true b e q = code-shown x
-    go false true e q = code-shown x
-    go false false e q = let l = ltb-false x 0x5F e in let n = eqb-false x 0x7F q in table (omega arith)
+graphic-shown x h =
+    either (λ (y : ℕ). 0x20 ≤ y) (ltb x 0x5F || eqb x 0x7F)
+    (λ e. code-shown x)
+    (λ e.
+    let l = ltb-false x 0x5F (or-left (ltb x 0x5F) (eqb x 0x7F) e) in
+    let n = eqb-false x 0x7F (or-right (ltb x 0x5F) (eqb x 0x7F) e) in
+    leb-true 0x20 (getD lineDrawing (x - 0x5F) 0) (at (leb 0x20) lineDrawing refl (x - 0x5F) (omega arith)))
 
 in-set-shown : (s : CharSet) (x : ℕ) → x < 0x80 → 0x20 ≤ signIn s x
 in-set-shown Ascii x h = code-shown x
@@ -57,11 +51,8 @@ in-set-shown Latin1 x h = omega arith
 
 pub sign-shown : (w : ℕ) → 0x20 ≤ sign w
 unfolding unpacked sign
-sign-shown w = go (eqb (w % 128) 0x1A)
-  where
-    go : (t : Bool) → 0x20 ≤ cond t 0x2426 (signIn (unpacked w .set) (w % 128))
-    go true = omega arith
-    go false = in-set-shown (unpacked w .set) (w % 128) (omega arith)
+sign-shown w =
+    either (λ (y : ℕ). 0x20 ≤ y) (eqb (w % 128) 0x1A) (λ e. omega arith) (λ e. in-set-shown (unpacked w .set) (w % 128) (omega arith))
 
 -- ---- and its bytes are not 0A
 
@@ -77,7 +68,8 @@ utf8-unbroken x h =
     (λ l. rw (one-byte x l, ne-eqb x 0x0A (omega arith)))
     (λ l. ⊎-elim
     (λ m. rw (two-bytes x l m, ne-eqb (0xC0 + x / 64) 0x0A (omega arith), ne-eqb (0x80 + x % 64) 0x0A (omega arith)))
-    (λ m. rw (three-bytes x m, ne-eqb (0xE0 + x / 4096) 0x0A (omega arith), ne-eqb (0x80 + x / 64 % 64) 0x0A (omega arith), ne-eqb (0x80 + x % 64) 0x0A (omega arith)))
+    (λ m. rw (three-bytes x m, ne-eqb (0xE0 + x / 4096) 0x0A (omega arith))
+    (rw (ne-eqb (0x80 + x / 64 % 64) 0x0A (omega arith), ne-eqb (0x80 + x % 64) 0x0A (omega arith))))
     (split-lt x 0x800))
     (split-lt x 0x80)
 
@@ -90,7 +82,7 @@ line-ends : (r : List ℕ) → lineCount (line r) ≡ 1
 unfolding lineCount
 line-ends r =
     let n = length (trimmed (map sign r)) in
-    let none : lineCount (encoded (trimmed (map sign r))) ≡ 0 = ap (λ (l : List ℕ). lineCount (encoded l)) (sym (left-signs r n refl)) ∙ signs-unbroken (take n r) in
+    let none : lineCount (encoded (trimmed (map sign r))) ≡ 0 = rw (← left-signs r n refl) (signs-unbroken (take n r)) in
     omega (arith, count-append (encoded (trimmed (map sign r))) (0x0A ∷ []))
 
 -- a line for each row

@@ -1,6 +1,5 @@
 -- The text of a page, row by row, and how long it is at most.
-use mathlib.Core.Path.{_≡_, refl, sym, ap, _∙_}
-use mathlib.Core.Bool.{Bool, cond}
+use mathlib.Core.Path.{_≡_, refl, ap, _∙_}
 use mathlib.Core.List.{List, [], _∷_, _++_, append-nil, append-assoc, map}
 use Prim.Native.Nat.{ℕ, zero, suc, _+_, _*_, _/_, _≤_, _<_}
 use native.Mathlib.Numerals.{add-one}
@@ -10,7 +9,7 @@ use lib.Seq.{sets, drop-drop}
 use borrow.Author.Tests.{le-leb, lt-leb}
 use Rattle.cells.specs.Rows.{row, rowsOf}
 use Rattle.text.specs.declared.Written.the-variants.{Complete, TooSmall}
-use Rattle.text.specs.Text.{sign, trimmed, encoded, line, lines, textOf, pageText, writeAs, writeGives, written}
+use Rattle.text.specs.Text.{sign, trimmed, encoded, line, lines, textOf, pageText, writeAs, written}
 use Rattle.text.proofs.Trimming.{trimmed-within}
 use Rattle.text.proofs.Encoding.{encoded-short}
 
@@ -28,14 +27,12 @@ rows-more : (n : ℕ) (p : List ℕ) → rowsOf (suc n) p ≡ rowsOf n p ++ (row
 rows-more zero p = refl
 rows-more (suc n) p =
     let next : 80 + 80 * n ≡ 80 * suc n = omega arith in
-    ap (λ (rs : List (List ℕ)). take 80 p ∷ rs) (rows-more n (drop 80 p))
-    ∙ ap (λ (r : List ℕ). take 80 p ∷ (rowsOf n (drop 80 p) ++ (r ∷ [])))
-    (ap (take 80) (drop-drop (80 * n) 80 p ∙ ap (λ (k : ℕ). drop k p) next))
+    rw (rows-more n (drop 80 p), drop-drop (80 * n) 80 p, next)
 
 lines-more : (rs : List (List ℕ)) (r : List ℕ) → lines (rs ++ (r ∷ [])) ≡ lines rs ++ line r
 unfolding lines
 lines-more [] r = append-nil (line r)
-lines-more (s ∷ rs) r = ap (λ (l : List ℕ). line s ++ l) (lines-more rs r) ∙ sym (append-assoc (line s) (lines rs) (line r))
+lines-more (s ∷ rs) r = rw (lines-more rs r, append-assoc (line s))
 
 pub text-more : (n : ℕ) (p : List ℕ) → textOf (n + 1) p ≡ textOf n p ++ line (row p n)
 unfolding textOf
@@ -51,8 +48,7 @@ pub text-part : (k n : ℕ) (p : List ℕ) → k ≤ n → length (textOf k p) �
 unfolding lines textOf
 text-part zero n p h = omega arith
 text-part (suc k) zero p h = absurd (omega arith)
-text-part (suc k) (suc n) p h =
-    omega (arith, text-part k n (drop 80 p) (omega arith), length-append (line (take 80 p)) (lines (rowsOf k (drop 80 p))), length-append (line (take 80 p)) (lines (rowsOf n (drop 80 p))))
+text-part (suc k) (suc n) p h = simp length-append (omega (arith, text-part k n (drop 80 p) (omega arith)))
 
 -- a row takes at most three bytes a cell, and 0A
 pub text-short : (n : ℕ) (p : List ℕ) → length (textOf n p) ≤ 80 * 3 * n + n
@@ -66,21 +62,20 @@ text-short (suc n) p =
 module _ (p o : List ℕ) where
   pub written-whole : length (pageText p) ≤ length o → written p o ≡ writeAs (Complete (length (pageText p))) (sets o 0 (pageText p))
   unfolding written
-  written-whole h = ap (λ (t : Bool). writeGives (cond t (Complete (length (pageText p))) TooSmall) (pageText p) o) (le-leb (length (pageText p)) (length o) h)
+  written-whole h = rw (le-leb (length (pageText p)) (length o) h)
 
   pub written-none : length o < length (pageText p) → written p o ≡ writeAs TooSmall o
   unfolding written
-  written-none h = ap (λ (t : Bool). writeGives (cond t (Complete (length (pageText p))) TooSmall) (pageText p) o) (lt-leb (length (pageText p)) (length o) h)
+  written-none h = rw (lt-leb (length (pageText p)) (length o) h)
 
 -- ---- a page of n rows
 
 pub page-text : (n : ℕ) (p : List ℕ) → length p ≡ 80 * n → pageText p ≡ textOf n p
-page-text n p h = let e : length p / 80 ≡ n = omega arith in ap (λ (k : ℕ). textOf k p) e
+page-text n p h = let e : length p / 80 ≡ n = omega arith in rw e
 
 -- a buffer of 241 bytes a row always holds it: 5,784 bytes for 24 rows
 pub always-whole : (n : ℕ) (p o : List ℕ) → length p ≡ 80 * n → 80 * 3 * n + n ≤ length o
     → written p o ≡ writeAs (Complete (length (textOf n p))) (sets o 0 (textOf n p))
 always-whole n p o h room =
     let e = page-text n p h in
-    written-whole p o (omega (arith, ap length e, text-short n p))
-    ∙ ap (λ (t : List ℕ). writeAs (Complete (length t)) (sets o 0 t)) e
+    written-whole p o (omega (arith, ap length e, text-short n p)) ∙ rw e

@@ -1,14 +1,15 @@
 -- The spaces at the end of a row: what is left without them, cell by cell from the end.
 use mathlib.Core.Path.{_≡_, refl, sym, ap, _∙_}
-use mathlib.Core.Bool.{Bool, true, false, cond}
 use mathlib.Core.List.{List, [], _∷_, _++_, map, map-append}
-use Prim.Native.Nat.{ℕ, zero, suc, _+_, _-_, _≤_, _<_}
+use Prim.Native.Nat.{ℕ, _+_, _-_, _≤_, _<_}
 use native.Mathlib.Numerals.{add-one}
 use native.Mathlib.Omega.{arith}
 use lib.Dec.{eqb}
 use lib.ListN.{length, getD, take, length-map, length-take}
 use lib.Seq.{take-suc, length-take-le}
 use borrow.Author.Tests.{ne-eqb}
+use Rattle.ground.proofs.ListLaws.{take-map}
+use Rattle.ground.proofs.TestLaws.{either}
 use Rattle.text.specs.Text.{sign, before, trimmed}
 
 -- a space at the end goes
@@ -33,18 +34,9 @@ unfolding trimmed
 trimmed-front [] = refl
 trimmed-front (x ∷ xs) = go (trimmed xs) (trimmed-front xs)
   where
-    alone : (t : Bool) → cond t [] (x ∷ []) ≡ take (length (cond t [] (x ∷ []))) (x ∷ xs)
-    alone true = refl
-    alone false = refl
-
     go : (t : List ℕ) → t ≡ take (length t) xs → before x t ≡ take (length (before x t)) (x ∷ xs)
-    go [] e = alone (eqb x 0x20)
+    go [] e = either (λ (t : List ℕ). t ≡ take (length t) (x ∷ xs)) (eqb x 0x20) (λ q. refl) (λ q. refl)
     go (y ∷ ys) e = ap (λ (l : List ℕ). x ∷ l) e
-
-map-take : (f : ℕ → ℕ) (n : ℕ) (xs : List ℕ) → map f (take n xs) ≡ take n (map f xs)
-map-take f zero xs = refl
-map-take f (suc n) [] = refl
-map-take f (suc n) (x ∷ xs) = ap (λ (l : List ℕ). f x ∷ l) (map-take f n xs)
 
 -- the signs of one cell more
 pub signs-more : (r : List ℕ) (i : ℕ) → i < length r → map sign (take (i + 1) r) ≡ map sign (take i r) ++ (sign (getD r i 0) ∷ [])
@@ -53,20 +45,15 @@ signs-more r i h = rw add-one (ap (map sign) (take-suc r i 0 h) ∙ map-append s
 -- the first n cells of a row, and their last
 module _ (r : List ℕ) (n : ℕ) (some : 0 < n) (h : n ≤ length r) where
   signs-last : map sign (take n r) ≡ map sign (take (n - 1) r) ++ (sign (getD r (n - 1) 0) ∷ [])
-  signs-last =
-      let e : n ≡ n - 1 + 1 = omega arith in
-      ap (λ (k : ℕ). map sign (take k r)) e ∙ signs-more r (n - 1) (omega arith)
+  signs-last = let e : n - 1 + 1 ≡ n = omega arith in rw e at (signs-more r (n - 1) (omega arith))
 
   pub trim-more : sign (getD r (n - 1) 0) ≡ 0x20 → trimmed (map sign (take n r)) ≡ trimmed (map sign (take (n - 1) r))
-  trim-more e =
-      ap trimmed (signs-last ∙ ap (λ (x : ℕ). map sign (take (n - 1) r) ++ (x ∷ [])) e) ∙ trimmed-space (map sign (take (n - 1) r))
+  trim-more e = rw (signs-last, e) (trimmed-space (map sign (take (n - 1) r)))
 
   pub trim-stop : (sign (getD r (n - 1) 0) ≡ 0x20 → ⊥) → length (trimmed (map sign (take n r))) ≡ n
   trim-stop ne =
-      ap (λ (l : List ℕ). length (trimmed l)) signs-last
-      ∙ ap length (trimmed-sign (map sign (take (n - 1) r)) (sign (getD r (n - 1) 0)) ne ∙ sym signs-last)
-      ∙ length-map (take n r) sign
-      ∙ length-take-le n r h
+      let all = trimmed-sign (map sign (take (n - 1) r)) (sign (getD r (n - 1) 0)) ne in
+      rw (signs-last, all, ← signs-last, length-map) (length-take-le n r h)
 
 pub trimmed-within : (r : List ℕ) → length (trimmed (map sign r)) ≤ length r
 trimmed-within r =
@@ -79,4 +66,4 @@ module _ (r : List ℕ) (n : ℕ) (e : n ≡ length (trimmed (map sign r))) wher
   left-count = sym (length-take-le n r (omega (arith, trimmed-within r)))
 
   pub left-signs : map sign (take n r) ≡ trimmed (map sign r)
-  left-signs = map-take sign n r ∙ ap (λ (k : ℕ). take k (map sign r)) e ∙ sym (trimmed-front (map sign r))
+  left-signs = sym (take-map sign n r) ∙ rw e (sym (trimmed-front (map sign r)))

@@ -7,16 +7,16 @@ use Rattle.page.specs.declared.Edit.the-variants.{Keep, ScrollDown}
 use Rattle.device.specs.declared.charsets.Register.the-variants.{G0, G1}
 use Rattle.device.specs.declared.charsets.SingleShift.the-variants.{Ss2, Ss3}
 use Rattle.device.specs.declared.cursor.Cursor.{Cursor}
-use Rattle.vt.specs.declared.core.Margins.{Margins}
-use Rattle.vt.specs.declared.core.Core.{Core}
-use Rattle.vt.specs.declared.core.Decision.{Decision}
-use Rattle.vt.specs.declared.geometry.Stops.{Stops}
+use Rattle.core.specs.declared.Margins.{Margins}
+use Rattle.core.specs.declared.Core.{Core}
+use Rattle.core.specs.declared.Decision.{Decision}
+use Rattle.core.specs.declared.geometry.Stops.{Stops}
 use Rattle.device.specs.Charsets.{withGl}
 use Rattle.device.specs.Tabs.{withTab}
 use Rattle.device.specs.Cursor.{left, tab, toColumn, index, reverseIndex}
-use Rattle.vt.specs.Geometry.{leftStop, rightStop, stopsOf}
+use Rattle.core.specs.Geometry.{leftStop, rightStop, stopsOf}
 use Rattle.vt.specs.Printing.{indexEdit}
-use Rattle.vt.specs.Effects.{withCursor, withTabs, withSets, withShift, oneEdit, unedited}
+use Rattle.core.specs.Effects.{withCursor, withTabs, withSets, withShift, oneEdit, unedited}
 
 -- ---- lines
 

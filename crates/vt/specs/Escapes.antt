@@ -8,15 +8,15 @@ use Rattle.page.specs.declared.Edit.the-variants.{Fill}
 use Rattle.cells.specs.Cells.{plainCell, packed, blank}
 use Rattle.device.specs.declared.charsets.Register.{Register}
 use Rattle.device.specs.declared.charsets.Register.the-variants.{G0, G1, G2, G3}
-use Rattle.vt.specs.declared.core.Saved.{Saved}
-use Rattle.vt.specs.declared.core.Core.{Core}
-use Rattle.vt.specs.declared.core.Decision.{Decision}
+use Rattle.core.specs.declared.Saved.{Saved}
+use Rattle.core.specs.declared.Core.{Core}
+use Rattle.core.specs.declared.Decision.{Decision}
 use Rattle.device.specs.Charsets.{designated, withGl, withGr}
 use Rattle.device.specs.Cursor.{place, restore}
-use Rattle.vt.specs.Fresh.{freshCore}
-use Rattle.vt.specs.Geometry.{firstRow, lastRow}
-use Rattle.vt.specs.Modes.{withOrigin, withEightbit}
-use Rattle.vt.specs.Effects.{withCursor, withMargins, withModes, withRendition, withSets, withSaved, oneEdit, unedited}
+use Rattle.core.specs.Fresh.{freshCore}
+use Rattle.core.specs.Geometry.{firstRow, lastRow}
+use Rattle.core.specs.Modes.{withOrigin, withEightbit}
+use Rattle.core.specs.Effects.{withCursor, withMargins, withModes, withRendition, withSets, withSaved, oneEdit, unedited}
 
 -- ---- ESC 7 and ESC 8 (DECSC, DECRC)
 

@@ -1,9 +1,3 @@
-pub mod Fresh
-pub mod Whole
-pub mod Bounds
-pub mod Geometry
-pub mod Modes
-pub mod Effects
 pub mod Printing
 pub mod Controls
 pub mod Escapes

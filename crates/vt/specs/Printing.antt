@@ -9,16 +9,16 @@ use Rattle.page.specs.declared.Edit.the-variants.{Keep, Put, InsertCells, Scrol
 use Rattle.cells.specs.Cells.{packed}
 use Rattle.device.specs.declared.charsets.SingleShift.the-variants.{NoShift}
 use Rattle.device.specs.declared.cursor.Cursor.{Cursor}
-use Rattle.vt.specs.declared.core.Margins.{Margins}
-use Rattle.vt.specs.declared.core.Modes.{Modes}
-use Rattle.vt.specs.declared.core.Core.{Core}
-use Rattle.vt.specs.declared.core.Decision.{Decision}
-use Rattle.vt.specs.declared.geometry.Stops.{Stops}
+use Rattle.core.specs.declared.Margins.{Margins}
+use Rattle.core.specs.declared.Modes.{Modes}
+use Rattle.core.specs.declared.Core.{Core}
+use Rattle.core.specs.declared.Decision.{Decision}
+use Rattle.core.specs.declared.geometry.Stops.{Stops}
 use Rattle.vt.specs.declared.printing.Printed.{Printed}
 use Rattle.device.specs.Charsets.{has96, leftSet, rightSet}
 use Rattle.device.specs.Cursor.{toColumn, index, advance}
-use Rattle.vt.specs.Geometry.{stopsOf}
-use Rattle.vt.specs.Effects.{withCursor, withShift, unedited}
+use Rattle.core.specs.Geometry.{stopsOf}
+use Rattle.core.specs.Effects.{withCursor, withShift, unedited}
 
 -- ---- the cell
 

@@ -1,24 +1,24 @@
 // The controls: below 20 and 80 to 9F.
-use crate::core::Core;
-use crate::core::Decision;
-use crate::core::Margins;
-use crate::effects::one_edit;
-use crate::effects::unedited;
-use crate::effects::with_shift;
-use crate::geometry::Stops;
-use crate::geometry::left_stop;
-use crate::geometry::right_stop;
-use crate::geometry::stops_of;
 use crate::printing::index_edit;
+use core::Core;
+use core::Decision;
+use core::Margins;
+use core::effects::one_edit;
+use core::effects::unedited;
+use core::effects::with_shift;
+use core::geometry::Stops;
+use core::geometry::left_stop;
+use core::geometry::right_stop;
+use core::geometry::stops_of;
 use device::charsets::Register;
 use device::charsets::SingleShift;
 use device::cursor::Cursor;
 use page::Edit;
 ghost use mathlib.Core.Path.{_≡_};
 ghost use Prim.Native.Nat.{_≤_};
-ghost use Rattle.vt.specs.Bounds.{Bounds};
+ghost use Rattle.core.specs.Bounds.{Bounds};
 ghost use Rattle.vt.specs.Escapes.{intoGl};
-ghost use Rattle.vt.specs.Effects as effects;
+ghost use Rattle.core.specs.Effects as effects;
 ghost use Rattle.vt.specs.Controls as controls;
 
 // ---- lines

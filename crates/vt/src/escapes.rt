@@ -1,17 +1,17 @@
 // Escape sequences. An intermediate that is not there is 0.
 use crate::controls::into_gl;
-use crate::core::Core;
-use crate::core::Decision;
-use crate::core::Margins;
-use crate::core::Saved;
-use crate::effects::one_edit;
-use crate::effects::unedited;
-use crate::fresh::fresh_core;
-use crate::fresh::fresh_cursor;
-use crate::geometry::first_row;
-use crate::geometry::last_row;
 use cells::BLANK;
 use cells::CharSet;
+use core::Core;
+use core::Decision;
+use core::Margins;
+use core::Saved;
+use core::effects::one_edit;
+use core::effects::unedited;
+use core::fresh::fresh_core;
+use core::fresh::fresh_cursor;
+use core::geometry::first_row;
+use core::geometry::last_row;
 use device::charsets::Register;
 use page::Edit;
 ghost use mathlib.Core.Path.{_≡_};

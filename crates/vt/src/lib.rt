@@ -1,9 +1,4 @@
-// The terminal's state but for the changed rows, and what characters, controls and escape sequences do to it.
+// What characters, controls and escape sequences do to the core.
 pub mod controls;
-pub mod core;
-pub mod effects;
 pub mod escapes;
-pub mod fresh;
-pub mod geometry;
 pub mod printing;
-pub mod whole;

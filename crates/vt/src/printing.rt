@@ -1,15 +1,15 @@
 // Printing: a byte 20 to 7F or A0 to FF, and SUB.
-use crate::core::Core;
-use crate::core::Decision;
-use crate::core::Margins;
-use crate::core::Modes;
-use crate::effects::unedited;
-use crate::effects::without_shift;
-use crate::geometry::Stops;
-use crate::geometry::stops_of;
 use cells::Cell;
 use cells::CharSet;
 use cells::words::pack;
+use core::Core;
+use core::Decision;
+use core::Margins;
+use core::Modes;
+use core::effects::unedited;
+use core::effects::without_shift;
+use core::geometry::Stops;
+use core::geometry::stops_of;
 use device::charsets::Sets;
 use device::charsets::SingleShift;
 use device::charsets::has_96;
@@ -19,7 +19,7 @@ ghost use mathlib.Core.Path.{_≡_};
 ghost use mathlib.Core.Bool.{cond};
 ghost use Prim.Native.Nat.{_≤_};
 ghost use lib.Dec.{ltb};
-ghost use Rattle.vt.specs.Bounds.{Bounds};
+ghost use Rattle.core.specs.Bounds.{Bounds};
 ghost use Rattle.device.specs.Charsets.{leftSet, rightSet};
 ghost use Rattle.vt.specs.Printing as printing;
 

@@ -5,13 +5,13 @@ use Prim.Native.Nat.{ℕ}
 use borrow.Author.Tests.{not-true}
 use Rattle.parser.specs.declared.parser.Action.{Action}
 use Rattle.parser.specs.declared.parser.Action.the-variants.{Nothing, Character, Substitute, Control, C1Control, EscapeSequence, ControlSequence}
-use Rattle.vt.specs.declared.core.Core.{Core}
-use Rattle.vt.specs.Whole.{Parts, WrapOf, Whole}
+use Rattle.core.specs.declared.Core.{Core}
+use Rattle.core.specs.Whole.{Parts, WrapOf, Whole}
 use Rattle.parser.specs.Parser.{decode}
 use Rattle.ground.proofs.TestLaws.{and-right, either}
 use Rattle.dispatch.specs.Heard.{isListed, isIgnored, isHeard, heard}
 use Rattle.dispatch.specs.WrapDue.{keepsWrap, clearsWrap}
-use Rattle.vt.specs.Effects.{withParser}
+use Rattle.core.specs.Effects.{withParser}
 use Rattle.dispatch.specs.Decide.{effect, executed, decided}
 use Rattle.wholeness.proofs.Decisions.{Good, Sound, policy-sound, good-unedited}
 use Rattle.wholeness.proofs.SoundParser.{decode-whole}

@@ -5,17 +5,19 @@ use Prim.Native.Nat.{ℕ, _-_, _%_}
 use native.Mathlib.Omega.{arith}
 use lib.Dec.{eqb}
 use Rattle.cells.specs.declared.CharSet.the-variants.{Ascii}
+use Rattle.page.specs.declared.Edit.{Edit}
 use Rattle.page.specs.Edits.{Within, RowsFit}
 use Rattle.device.specs.declared.charsets.SingleShift.the-variants.{NoShift}
 use Rattle.device.specs.declared.cursor.Cursor.{Cursor}
-use Rattle.vt.specs.declared.core.Core.{Core}
+use Rattle.core.specs.declared.Core.{Core}
 use Rattle.vt.specs.declared.printing.Printed.{Printed}
 use Rattle.device.specs.Cursor.{advance}
-use Rattle.vt.specs.Printing.{usedSet, skipped, shownSet, cellWord, indexEdit, putEdit, lineStart, nextLine, printHere, printBelow, printedIn, put, printed, substituted}
-use Rattle.vt.specs.Geometry.{leftStop, rightStop, stopsOf}
-use Rattle.vt.specs.Effects.{withShift}
+use Rattle.vt.specs.Printing.{usedSet, skipped, shownSet, cellWord, indexEdit, putEdit, lineStart, nextLine, printHere, printBelow, printedIn, put, printed}
+use Rattle.vt.specs.Printing.{substituted}
+use Rattle.core.specs.Geometry.{leftStop, rightStop, stopsOf}
+use Rattle.core.specs.Effects.{withShift}
 use Rattle.ground.proofs.TestLaws.{either}
-use Rattle.vt.specs.Whole.{Parts, WrapOf}
+use Rattle.core.specs.Whole.{Parts, WrapOf}
 use Rattle.wholeness.proofs.Decisions.{Good, good-unedited}
 use Rattle.wholeness.proofs.SoundMoves.{Fine, own, with-cursor, fine-start, fine-index, fine-advance, advance-wrap}
 
@@ -34,28 +36,26 @@ module _ (c : Core) (w : ℕ) (t : Bool) (p : Parts c) where
   abbrev GoodPrinted : Printed → Type 0
   GoodPrinted x = Good (c .rows) t (printedIn c x)
 
+  -- the cursor goes on from u, where the word was put
+  good-advanced : (u : Cursor) (first second : Edit) → Fine c u → Within (c .rows) first → Within (c .rows) second
+      → GoodPrinted (record { cursor = advance u (rightStop c) (c .modes .autowrap); first = first; second = second })
+  good-advanced u first second f i j = record {
+    rows = refl;
+    parts = with-cursor c (advance u (rightStop c) (c .modes .autowrap)) p (fine-advance c u p f (c .modes .autowrap));
+    wrap = λ e. advance-wrap c u p f (c .modes .autowrap);
+    first = i;
+    second = j;
+  }
+
   good-below : GoodPrinted (printBelow (c .cursor) (c .margins) (c .rows) (c .modes) (stopsOf c) w)
   good-below =
       let start-at : Cursor = lineStart (stopsOf c) (c .cursor) in
       let next-at : Cursor = nextLine (c .margins) (c .rows) (stopsOf c) (c .cursor) in
-      let start : Fine c start-at = fine-start c (c .cursor) p (own c p) in
-      let next : Fine c next-at = fine-index c start-at p start in
-      record {
-        rows = refl;
-        parts = with-cursor c (advance next-at (rightStop c) (c .modes .autowrap)) p (fine-advance c next-at p next (c .modes .autowrap));
-        wrap = λ e. advance-wrap c next-at p next (c .modes .autowrap);
-        first = index-within c start-at p;
-        second = put-within c next-at w next;
-      }
+      let next : Fine c next-at = fine-index c start-at p (fine-start c (c .cursor) p (own c p)) in
+      good-advanced next-at _ _ next (index-within c start-at p) (put-within c next-at w next)
 
   good-here : GoodPrinted (printHere (c .modes) (stopsOf c) (c .cursor) w)
-  good-here = record {
-    rows = refl;
-    parts = with-cursor c (advance (c .cursor) (rightStop c) (c .modes .autowrap)) p (fine-advance c (c .cursor) p (own c p) (c .modes .autowrap));
-    wrap = λ e. advance-wrap c (c .cursor) p (own c p) (c .modes .autowrap);
-    first = put-within c (c .cursor) w (own c p);
-    second = tt;
-  }
+  good-here = good-advanced (c .cursor) _ _ (own c p) (put-within c (c .cursor) w (own c p)) tt
 
   pub good-put : Good (c .rows) t (put c w)
   unfolding put

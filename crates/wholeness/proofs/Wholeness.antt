@@ -1,49 +1,37 @@
 -- A whole core: the test, and the facts with one of the three sizes, say the same; and the fresh core is whole.
 use mathlib.Core.Path.{_≡_, refl}
 use mathlib.Core.Bool.{Bool, true, false, _&&_, _||_, false≢true}
-use Prim.Native.Nat.{ℕ, _<_}
+use Prim.Native.Nat.{ℕ, _≤_}
 use native.Mathlib.Omega.{arith}
-use lib.Dec.{eqb, leb, ltb}
+use lib.Dec.{eqb}
 use borrow.Author.Tests.{leb-true, le-leb, ltb-true, lt-ltb, eqb-true, eq-eqb}
 use Rattle.parser.specs.declared.parser.Parser.{Parser}
-use Rattle.vt.specs.declared.core.Core.{Core}
-use Rattle.ground.specs.Tests.{between}
+use Rattle.core.specs.declared.Core.{Core}
+use Rattle.ground.specs.Tests.{between, all}
 use Rattle.device.specs.Cursor.{place}
-use Rattle.vt.specs.declared.core.Margins.{Margins}
-use Rattle.vt.specs.Bounds.{Rows, OnPage, Scrolls}
-use Rattle.vt.specs.Whole.{sized, coreTests, wholeCore, WrapHeld, OriginHeld, SavedHeld, Whole}
-use Rattle.vt.specs.Fresh.{freshCore}
-use Rattle.parser.specs.declared.phases.Phase.the-variants.{Ground}
-use Rattle.parser.specs.Parser.{cleared}
+use Rattle.core.specs.declared.Margins.{Margins}
+use Rattle.core.specs.Bounds.{Rows, OnPage, Scrolls}
+use Rattle.core.specs.Whole.{sized, coreTests, wholeCore, WrapHeld, OriginHeld, SavedHeld, Whole}
+use Rattle.core.specs.Fresh.{freshCore}
 use Rattle.parser.specs.WholeParser.{parserTests, WholeParser}
-use Rattle.ground.specs.Tests.{all}
 use Rattle.ground.proofs.TestLaws.{and-left, and-right, and-both, or-cases, all-at, implied, implying, between-low, between-high, in-between}
 
 -- ---- the three sizes
 
-at-size : (P : ℕ → Type 0) (r : ℕ) → sized r ≡ true → P 24 → P 36 → P 48 → P r
-at-size P r e h24 h36 h48 =
+sized-between : (r : ℕ) → sized r ≡ true → (24 ≤ r) × (r ≤ 48)
+sized-between r e =
     or-cases (eqb r 24 || eqb r 36) (eqb r 48) e
-    (λ (h : (eqb r 24 || eqb r 36) ≡ true). or-cases (eqb r 24) (eqb r 36) h
-    (λ (k : eqb r 24 ≡ true). rw (eqb-true r 24 k) h24)
-    (λ (k : eqb r 36 ≡ true). rw (eqb-true r 36 k) h36))
-    (λ (k : eqb r 48 ≡ true). rw (eqb-true r 48 k) h48)
+    (λ h. or-cases (eqb r 24) (eqb r 36) h (λ k. omega (arith, eqb-true r 24 k)) (λ k. omega (arith, eqb-true r 36 k)))
+    (λ k. omega (arith, eqb-true r 48 k))
 
 pub sized-rows : (r : ℕ) → sized r ≡ true → Rows r
-sized-rows r e = at-size Rows r e (omega arith) (omega arith) (omega arith)
-
-sized-many : (r : ℕ) → sized r ≡ true → 1 < r
-sized-many r e = at-size (λ (n : ℕ). 1 < n) r e (omega arith) (omega arith) (omega arith)
+sized-rows r e = omega (arith, sized-between r e)
 
 -- ---- the test and the facts
 
 pub placed : (rows row column : ℕ) → between 1 row rows ≡ true → between 1 column 80 ≡ true → OnPage rows row column
-placed rows row column a b = record {
-  row-low = between-low 1 row rows a;
-  row-high = between-high 1 row rows a;
-  column-low = between-low 1 column 80 b;
-  column-high = between-high 1 column 80 b;
-}
+placed rows row column a b =
+    omega (arith, between-low 1 row rows a, between-high 1 row rows a, between-low 1 column 80 b, between-high 1 column 80 b)
 
 pub parser-facts : (p : Parser) → all (parserTests p) ≡ true → WholeParser p
 parser-facts p e =
@@ -65,14 +53,10 @@ module _ (c : Core) (e : wholeCore c ≡ true) where
   margins-facts =
       let m = c .margins in
       let t = all-at (coreTests c) core-tests 3 in
-      let l = and-left (leb 1 (m .top) && ltb (m .top) (m .bottom)) (leb (m .bottom) (c .rows)) t in
-      let s = ltb-true (m .top) (m .bottom) (and-right (leb 1 (m .top)) (ltb (m .top) (m .bottom)) l) in
-      record {
-        low = leb-true 1 (m .top) (and-left (leb 1 (m .top)) (ltb (m .top) (m .bottom)) l);
-        ordered = omega arith;
-        high = leb-true (m .bottom) (c .rows) (and-right (leb 1 (m .top) && ltb (m .top) (m .bottom)) (leb (m .bottom) (c .rows)) t);
-        some = λ _. s;
-      }
+      let low = leb-true 1 (m .top) (search (and-left, and-right)) in
+      let some = ltb-true (m .top) (m .bottom) (search (and-left, and-right)) in
+      let high = leb-true (m .bottom) (c .rows) (search (and-left, and-right)) in
+      omega arith
 
   pub facts : Whole c
   unfolding wholeCore
@@ -85,11 +69,7 @@ module _ (c : Core) (e : wholeCore c ≡ true) where
       let inside = implied (c .modes .origin) (between (m .top) (u .row) (m .bottom)) (t 5) in
       record {
         parts = record {
-          bounds = record {
-            count = sized-rows (c .rows) core-sized;
-            cursor = placed (c .rows) (u .row) (u .column) (t 1) (t 2);
-            margins = margins-facts;
-          };
+          bounds = record { count = sized-rows (c .rows) core-sized; cursor = placed (c .rows) (u .row) (u .column) (t 1) (t 2); margins = margins-facts };
           origin = record {
             low = λ h. between-low (m .top) (u .row) (m .bottom) (inside h);
             high = λ h. between-high (m .top) (u .row) (m .bottom) (inside h);
@@ -121,7 +101,7 @@ tested c e w =
       in-between 1 (u .row) (c .rows) (on .row-low) (on .row-high),
       in-between 1 (u .column) 80 (on .column-low) (on .column-high),
       le-leb 1 (m .top) (scrolls .low),
-      lt-ltb (m .top) (m .bottom) (scrolls .some (sized-many (c .rows) e)),
+      lt-ltb (m .top) (m .bottom) (scrolls .some (omega (arith, sized-between (c .rows) e))),
       le-leb (m .bottom) (c .rows) (scrolls .high),
       implying (u .wrap) (eqb (u .column) 80 && c .modes .autowrap)
           (λ h. and-both (eqb (u .column) 80) (c .modes .autowrap) (eq-eqb (u .column) 80 (w .wrap .column h)) (w .wrap .mode h)),
@@ -139,22 +119,15 @@ tested c e w =
 pub no-wrap : (column : ℕ) (autowrap : Bool) → WrapHeld false column autowrap
 no-wrap column autowrap = record { column = λ h. absurd (false≢true h); mode = λ h. absurd (false≢true h) }
 
--- row and column 1
-pub home-on : (r : ℕ) → Rows r → OnPage r 1 1
-home-on r n = omega arith
-
 pub full : (r : ℕ) → Rows r → Scrolls r (record { top = 1; bottom = r })
-full r n = record { low = omega arith; ordered = omega arith; high = omega arith; some = λ h. h }
+full r n = omega arith
 
 pub origin-off : (m : Margins) (row : ℕ) → OriginHeld false m row
 origin-off m row = record { low = λ h. absurd (false≢true h); high = λ h. absurd (false≢true h) }
 
 -- a saved cursor at 1,1
 pub saved-home : (r : ℕ) → Rows r → SavedHeld r (place 1 1)
-saved-home r n = record { place = home-on r n; wrap = λ h. absurd (false≢true h) }
-
-pub cleared-whole : WholeParser (cleared Ground)
-cleared-whole = record { few = omega arith; small = refl; first = refl; second = refl; mark = refl }
+saved-home r n = record { place = omega arith; wrap = λ h. absurd (false≢true h) }
 
 pub fresh-rows : (r : ℕ) → freshCore r .rows ≡ r
 unfolding freshCore
@@ -164,10 +137,10 @@ pub fresh-whole : (r : ℕ) → Rows r → Whole (freshCore r)
 unfolding freshCore
 fresh-whole r n = record {
   parts = record {
-    bounds = record { count = n; cursor = home-on r n; margins = full r n };
+    bounds = record { count = n; cursor = omega arith; margins = full r n };
     origin = origin-off (record { top = 1; bottom = r }) 1;
     saved = saved-home r n;
-    parser = cleared-whole;
+    parser = record { few = omega arith; small = refl; first = refl; second = refl; mark = refl };
   };
   wrap = no-wrap 1 false;
 }

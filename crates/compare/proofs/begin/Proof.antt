@@ -6,11 +6,9 @@ use borrow.Author.Needs.{needs}
 use Rattle.compare.proofs.begin.Statement.{statement}
 use Rattle.compare.proofs.begin.Tie as tie
 
-slice-aggregate-do-start : tie.Need-slice-aggregate-do-start
-slice-aggregate-do-start c = sym (length-take-le _ _ (omega (arith, c .before .least .ensures)))
-
 pub begin-spec : {M : Type 1} → statement M
 begin-spec =
-    tie.close
-    (tie.spec (λ c κs. search needs) (λ c. search needs) slice-aggregate-do-start (λ c κs. search needs) (λ c. search needs) (λ c. search needs)
-    (λ c. search needs))
+    tie.close (tie.spec
+    (λ c κs. search needs) (λ c. search needs)
+    (λ c. sym (length-take-le _ _ (omega (arith, c .before .least .ensures))))
+    (λ c κs. search needs) (λ c. search needs) (λ c. search needs) (λ c. search needs))

@@ -6,8 +6,9 @@ use borrow.Author.Needs.{needs}
 use Rattle.compare.proofs.flush.Statement.{statement}
 use Rattle.compare.proofs.flush.Tie as tie
 
-slice-aggregate-write-all : tie.Need-slice-aggregate-write-all
-slice-aggregate-write-all c = sym (length-take-le _ _ (omega (arith, c .before .least .ensures)))
-
 pub flush-spec : {M : Type 1} → statement M
-flush-spec = tie.close (tie.spec (λ c κs. search needs) slice-aggregate-write-all (λ c κs. search needs) (λ c. search needs))
+flush-spec =
+    tie.close (tie.spec
+    (λ c κs. search needs)
+    (λ c. sym (length-take-le _ _ (omega (arith, c .before .least .ensures))))
+    (λ c κs. search needs) (λ c. search needs))

@@ -6,24 +6,18 @@ use borrow.Author.Needs.{needs}
 use Rattle.compare.proofs.take.Statement.{statement}
 use Rattle.compare.proofs.take.Tie as tie
 
-slice-aggregate-read-full : tie.Need-slice-aggregate-read-full
-slice-aggregate-read-full c = sym (length-take-le _ _ (omega (arith, c .before .before .least2 .ensures)))
-
-slice-aggregate-do-feed : tie.Need-slice-aggregate-do-feed
-slice-aggregate-do-feed c = sym (length-take-le _ _ (omega (arith, c .before .before .before .before .before .before .before .least .ensures)))
-
 slice-aggregate-do-feed-2 : tie.Need-slice-aggregate-do-feed-2
 slice-aggregate-do-feed-2 c =
     let read = c .before .before .before .before in
     sym (length-take-le _ _ (omega (arith, read .before .before .before .least2 .ensures, read .read-full .kept)))
 
-slice-aggregate-do-feed-3 : tie.Need-slice-aggregate-do-feed-3
-slice-aggregate-do-feed-3 c = sym (length-take-le _ _ (omega (arith, c .before .before .before .before .before .before .before .least3 .ensures)))
-
 pub take-spec : {M : Type 1} → statement M
 take-spec =
-    tie.close
-    (tie.spec (λ c κs. search needs) (λ c κs. search needs) (λ c κs. search needs) (λ c. search needs) slice-aggregate-read-full
-    (λ c κs. search needs) (λ c. search needs) slice-aggregate-do-feed (λ c. search needs) slice-aggregate-do-feed-2 (λ c. search needs)
-    slice-aggregate-do-feed-3 (λ c κs. search needs) (λ c. search needs) (λ c. search needs) (λ c. search needs) (λ c. search needs)
-    (λ c. search needs))
+    tie.close (tie.spec
+    (λ c κs. search needs) (λ c κs. search needs) (λ c κs. search needs) (λ c. search needs)
+    (λ c. sym (length-take-le _ _ (omega (arith, c .before .before .least2 .ensures))))
+    (λ c κs. search needs) (λ c. search needs)
+    (λ c. sym (length-take-le _ _ (omega (arith, c .before .before .before .before .before .before .before .least .ensures))))
+    (λ c. search needs) slice-aggregate-do-feed-2 (λ c. search needs)
+    (λ c. sym (length-take-le _ _ (omega (arith, c .before .before .before .before .before .before .before .least3 .ensures))))
+    (λ c κs. search needs) (λ c. search needs) (λ c. search needs) (λ c. search needs) (λ c. search needs) (λ c. search needs))

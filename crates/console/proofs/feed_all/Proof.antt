@@ -3,7 +3,7 @@ use Prim.Native.Nat.{_-_}
 use native.Mathlib.Omega.{arith}
 use borrow.Author.Needs.{needs}
 use lib.ListN.{length}
-use Rattle.console.proofs.FeedLaws.{Going, going-none, turn, going-all}
+use Rattle.console.proofs.FeedLaws.{Going, going-none, turn-less, turn-next, going-all}
 use Rattle.console.proofs.feed_all.Statement.{statement}
 use Rattle.console.proofs.feed_all.Tie as tie
 
@@ -13,47 +13,34 @@ Inv-loop page₀ input reply₀ newest₀ from₀ page reply newest from = Going
 abbrev μ-loop : tie.MeasureT-loop
 μ-loop page₀ input reply₀ newest₀ from₀ page reply newest from = length input - from
 
-loop-holds : tie.Need-loop-holds Inv-loop μ-loop
-loop-holds c = going-none _ _ _ _ (c .before .before .before .pre .0)
+loop-again : tie.Need-loop-again Inv-loop μ-loop
+loop-again c =
+    let called = c .before .before .before .before .before .before in
+    let head = called .before .before .before .before .before in
+    let room = head .before .before .before .before .pre .1 in
+    let kept = called .feed .kept in
+    turn-next (head .loop .inv) room (called .before .before .before .before .loop-test .taken) (kept .1 .0) (kept .1 .1 .1 .0) (called .feed .ensures)
 
+-- `head` and `start` are named for `omega`, which reads there how long the input is at most
 add-from : tie.Need-add-from Inv-loop μ-loop
 add-from c =
-    let called = c .before .before .before .before .before .before in
-    let head = called .before .before .before .before in
+    let head = c .before .before .before .before .before .before .before .before .before .before in
     let start = head .before .before .before .before .before in
-    let kept = called .feed .kept in
-    let t = turn (head .before .loop .inv) (start .pre .1) (head .loop-test .taken) (kept .1 .0) (kept .1 .1 .1 .0) (called .feed .ensures) in
-    omega (arith, t .next .within)
+    omega (arith, loop-again c .within)
 
 loop-less : tie.Need-loop-less Inv-loop μ-loop
 loop-less c =
     let called = c .before .before .before .before .before .before in
-    let head = called .before .before .before .before in
-    let start = head .before .before .before .before .before in
+    let head = called .before .before .before .before .before in
+    let room = head .before .before .before .before .pre .1 in
     let kept = called .feed .kept in
-    let t = turn (head .before .loop .inv) (start .pre .1) (head .loop-test .taken) (kept .1 .0) (kept .1 .1 .1 .0) (called .feed .ensures) in
-    omega (arith, t .some, t .next .within)
-
-loop-again : tie.Need-loop-again Inv-loop μ-loop
-loop-again c =
-    let called = c .before .before .before .before .before .before in
-    let head = called .before .before .before .before in
-    let start = head .before .before .before .before .before in
-    let kept = called .feed .kept in
-    let t = turn (head .before .loop .inv) (start .pre .1) (head .loop-test .taken) (kept .1 .0) (kept .1 .1 .1 .0) (called .feed .ensures) in
-    t .next
-
-same-length : tie.Need-same-length Inv-loop μ-loop
-same-length c = c .before .loop .inv .page-long
-
-same-length-2 : tie.Need-same-length-2 Inv-loop μ-loop
-same-length-2 c = c .before .loop .inv .reply-long
-
-returns : tie.Need-returns Inv-loop μ-loop
-returns c = going-all (c .before .loop .inv) (c .loop-test .left)
+    turn-less (head .loop .inv) room (called .before .before .before .before .loop-test .taken) (kept .1 .0) (kept .1 .1 .1 .0) (called .feed .ensures)
 
 pub feed-all-spec : {M : Type 1} → statement M
 feed-all-spec =
-    tie.close
-    (tie.spec Inv-loop μ-loop loop-holds (λ c. search needs) (λ c. search needs) (λ c. search needs) (λ c κs. search needs) add-from loop-less
-    loop-again same-length same-length-2 returns)
+    tie.close (tie.spec
+    Inv-loop μ-loop
+    (λ c. search going-none)
+    (λ c. search needs) (λ c. search needs) (λ c. search needs) (λ c κs. search needs) add-from loop-less loop-again (λ c. search needs)
+    (λ c. search needs)
+    (λ c. search going-all))

@@ -1,37 +1,17 @@
--- `pankholim::pankholim_feed` meets its contract: a walk of its MIR, by hand. The record is copied out of the open borrow and passed to `by_value::feed` with
--- what was lent beside it; the record returned is stored, and the borrow is closed at it.
+-- `pankholim::pankholim_feed` meets its contract: a walk of its MIR, by hand. The record is copied out of the open borrow and passed to `by_value::feed`
+-- with what was lent beside it; the record returned is stored, and the borrow is closed at it.
 -- All that the proof knows of `by_value::feed` is that it meets its contract.
-use Rattle.pankholim.proofs.WalkKit.{refl, ap, length, [], _∷_, List, URA, fullShare, named, w8, Val, vint, SProp, ent, emp, via, fst∗, id⊢, fat, flft}
-use Rattle.pankholim.proofs.WalkKit.{Memory, Routine, Heap, Calls, Loops, WpFn, Atoms, Lfts, Shares, Fun, givenOf, Given, Item, ‵, raw, some, later}
-use Rattle.pankholim.proofs.WalkKit.{_⊛_, _$_, _∵_, !, qed, by, move, drop, use1, use2, split, join, pick, rewrite, fsplit, fsplit3, fjoin, await}
-use Rattle.pankholim.proofs.WalkKit.{look, look-raw, init, store-raw, stop, hop, fld, from, load, addr, of-opd, and-then, no-more, assigns, land}
-use Rattle.pankholim.proofs.WalkKit.{returns, enter, alloc1, alloc0, params1, pass1, pass0, free0, agg, whole, sub, look-in, FmC, owns, flat, Is}
-use Rattle.pankholim.proofs.WalkKit.{shows, uint-makes, u8, u16, usize, ptr-vals, mut-tells, typesAt, Room, slice-vals, mut-slice-tells}
-use Rattle.pankholim.proofs.WalkKit.{shr-slice-tells, only, owned, peeks, Args, alive, onEntry, tripleOf, Contract, Triple, calls-at, Lasts, atExit}
-use Rattle.pankholim.proofs.WalkKit.{ensured, lasts}
+use Rattle.pankholim.proofs.WalkKit.{fat, flft, emp, id⊢, u8, u16, usize, Is, shows, owns, ptr-vals, mut-tells, typesAt, slice-vals, mut-slice-tells}
+use Rattle.pankholim.proofs.WalkKit.{shr-slice-tells, only, peeks, alive, fullShare, URA, [], _∷_, refl, ap, named, w8, Val, vint, ‵, raw, _⊛_, _$_}
+use Rattle.pankholim.proofs.WalkKit.{_∵_, !, qed, by, move, drop, split, rewrite, fsplit, fsplit3, fjoin, agg, whole, sub, look-in, look, look-raw}
+use Rattle.pankholim.proofs.WalkKit.{init, store-raw, stop, hop, fld, from, load, addr, of-opd, and-then, no-more, assigns, land, returns, enter}
+use Rattle.pankholim.proofs.WalkKit.{alloc1, alloc0, params1, pass1, pass0, free0}
+use Rattle.pankholim.proofs.RecordWalk.{spelled, answer-fits, terminal-is, record-typed, stored-typed, opens-record, closes-record, passes-local}
+use Rattle.pankholim.proofs.RecordWalk.{lends, free-at, Spelled, written, _⨾_, ends-told, calls-met, says-stored, Walks, concludes}
 use denote.Struct.Laws as LL
-use Rattle.pankholim.specs.declared.record.Terminal.{Terminal}
-use Rattle.pankholim.specs.declared.by_value.Left.{Left}
-use Rattle.pankholim.proofs.record.Terminal as T
-use Rattle.pankholim.proofs.by_value.Left as L
-use Rattle.pankholim.proofs.by_value.Left.Laws as L′
-use Rattle.pankholim.proofs.RecordWalk.{
-  spelled,
-  answer-fits,
-  terminal-is,
-  record-typed,
-  stored-typed,
-  opens-record,
-  closes-record,
-  passes-local,
-  lends,
-  free-at,
-  asks-nothing,
-  says-record,
-  ends-said,
-  spelled-out,
-  concludes,
-}
+use Rattle.record.proofs.Terminal as T
+use Rattle.pankholim.proofs.by_value.Outcome as L
+use Rattle.pankholim.proofs.by_value.Outcome.Laws as L′
 use Rattle.pankholim.proofs.by_value.feed as callee
 use Rattle.pankholim.proofs.by_value.feed.Symbol as callee-def
 use Rattle.pankholim.proofs.by_value.feed.Symbol.{name as #callee}
@@ -41,133 +21,64 @@ use Rattle.pankholim.proofs.pankholim_feed as feed
 use Rattle.pankholim.proofs.pankholim_feed.Statement as stated
 use Rattle.pankholim.proofs.pankholim_feed.Code as code
 
--- the contract that the proof cites
-abbrev Callee : {M : Type 1} (𝓤 : URA M) (H : Heap 𝓤) (A : Atoms 𝓤) (mem : Memory → SProp 𝓤) (run : Routine → Fun 𝓤) → Contract 𝓤
-Callee 𝓤 H A mem run = tripleOf 𝓤 H A callee.signature (callee.spec 𝓤 H A mem run)
+-- the machine values of the parameters
+abbrev vals : Spelled feed.ended
+vals κs = (ptr-vals, (slice-vals, (slice-vals, (slice-vals, (ptr-vals, (ptr-vals, tt))))))
 
-module _ {M : Type 1} (𝓤 : URA M) (H : Heap 𝓤) (A : Atoms 𝓤) (W : Given 𝓤 H A) (mem : Memory → SProp 𝓤) (run : Routine → Fun 𝓤)
-    (κs : Lfts 6) (qs : Shares 6) (a : Args feed.signature κs) where
-  abbrev h : Terminal
-  h = a .0 .now
-
-  -- the machine values of what is passed on beside the record
-  abbrev beside : List Val × (List Val × (List Val × (List Val × (List Val × Unit {0}))))
-  beside = (
-    slice-vals (a .1 .0),
-    (
-      slice-vals (a .1 .1 .0),
-      (
-        slice-vals (a .1 .1 .1 .0),
-        (
-          ptr-vals (a .1 .1 .1 .1 .0),
-          (
-            ptr-vals
-                (a .1 .1 .1 .1 .1 .0),
-            tt,
-          ),
-        ),
-      ),
-    ),
-  )
-
-  abbrev at-entry : tripleOf 𝓤 H A feed.signature (feed.spec 𝓤 H A mem run) .Ghost
-  at-entry = ((κs, qs, tt, a, (ptr-vals (a .0), beside)), tt)
-
-  abbrev Post : Val → SProp 𝓤
-  Post = tripleOf 𝓤 H A feed.signature (feed.spec 𝓤 H A mem run) .post at-entry
-
-  -- what is passed on
-  abbrev passed : Args callee.signature (κs .1)
-  passed = (h, a .1)
-
-  abbrev to : Callee 𝓤 H A mem run .Ghost
-  to = ((κs .1, qs .1, tt, passed, (spelled h, beside)), tt)
-
-  abbrev tokens : Item 𝓤
-  tokens = raw (alive 𝓤 H A callee.signature (κs .1) (qs .1))
-
-  -- what the callee ensures of its result and of the last values
-  abbrev Ensured : Left → Lasts callee.ended (κs .1) passed → SProp 𝓤
-  Ensured r ws = callee.clauses 𝓤 H A mem run (κs .1) passed .ensures tt r (atExit callee.ended (κs .1) passed ws)
-
-  module _ (C : Calls 𝓤 H) (Λ : Loops 𝓤 H) (fm : FmC 𝓤 H (W .laws) C) (known : Triple 𝓤 (C #callee) (Callee 𝓤 H A mem run)) where
-    walk : Room u16 (length (a .1 .0 .now)) → Room u8 (length (a .1 .1 .0 .now)) → Room u8 (length (a .1 .1 .1 .0 .now))
-        → ent 𝓤 (onEntry 𝓤 H A feed.signature κs qs a (ptr-vals (a .0), beside))
-        (WpFn 𝓤 H C Λ code.function (flat (typesAt (feed.signature .params) κs) (ptr-vals (a .0), beside)) Post)
-    walk page-room input-room reply-room =
-        qed W ((‵ (flft (κs .0) (qs .0)) ⊛ tokens) ∷ ‵ (owns (typesAt (feed.signature .params) κs) a (ptr-vals (a .0), beside)) ∷ []) ∵
-        enter ! C Λ code.function _ _ $
-        alloc1 ! (λ l₀. alloc1 ! (λ l₁. alloc1 ! (λ l₂. alloc1 ! (λ l₃. alloc1 ! (λ l₄. alloc1 ! (λ l₅. alloc1 ! (λ l₆. alloc1 ! (λ l₇. alloc1 !
-        (λ l₈. alloc1 ! (λ l₉. alloc1 ! (λ l₁₀. alloc1 ! (λ l₁₁. alloc1 ! (λ l₁₂. alloc1 ! (λ l₁₃. alloc1 ! (λ l₁₄. alloc0 ! $ params1 ! $
-        pass1 ! (init ! 26 refl (tt, tt)) $ pass1 ! (init ! 24 refl (tt, (tt, (record { fits = page-room .0 }, tt)))) $
-        pass1 ! (init ! 22 refl (tt, (tt, (record { fits = input-room .0 }, tt)))) $
-        pass1 ! (init ! 20 refl (tt, (tt, (record { fits = reply-room .0 }, tt)))) $ pass1 ! (init ! 18 refl (tt, tt)) $ pass1 ! (init ! 16 refl (tt, tt)) $
-        pass0 ! $
-        -- the record's borrow is opened
-        move ! (31 ∷ []) $ fsplit ! $ fsplit3 ! $ drop ! $ move ! (33 ∷ []) $ split ! $ move ! (2 ∷ 3 ∷ 0 ∷ []) $
-        opens-record ! tt h (a .0 .ptr .0) (a .0 .ptr .1) (λ is.
-        -- [the record's cell; what it owns; the open borrow; obs; auth; the others' tokens; what the others own; _14; …; and so on to room for _0; …]
-        assigns ! (of-opd ! (load ! (from ! (hop ! (look ! 33 refl) (stop !))) (look-raw ! 0 refl))) (from ! (stop !)) (init ! 19 refl
-        (record-typed 𝓤 H A W h is)) $
-        assigns ! (addr ! (from ! (fld ! refl (hop ! (look-in ! 31 (sub ! 0 refl (whole !))) (stop !))))) (from ! (stop !)) (init ! 17 refl (tt, tt)) $
-        assigns ! (agg ! (and-then ! (passes-local ! 17 refl) (and-then ! (load ! (from ! (fld ! refl (stop !))) (look-in ! 31 (sub ! 1 refl (whole !))))
-        (no-more !)))) (from ! (stop !)) (init ! 15 refl (tt, (tt, (record { fits = page-room .0 }, tt)))) $
-        assigns ! (addr ! (from ! (fld ! refl (hop ! (look-in ! 27 (sub ! 0 refl (whole !))) (stop !))))) (from ! (stop !)) (init ! 13 refl (tt, tt)) $
-        assigns ! (agg ! (and-then ! (passes-local ! 13 refl) (and-then ! (load ! (from ! (fld ! refl (stop !))) (look-in ! 27 (sub ! 1 refl (whole !))))
-        (no-more !)))) (from ! (stop !)) (init ! 11 refl (tt, (tt, (record { fits = reply-room .0 }, tt)))) $
-        lends ! 25 9 refl refl (tt, tt) $ lends ! 23 7 refl refl (tt, tt) $
-        move ! (1 ∷ 6 ∷ []) $ fjoin ! $ move ! (5 ∷ 0 ∷ []) $ use2 W (raw (Callee 𝓤 H A mem run .pre to)) (asks-nothing 𝓤 _) $
-        -- [what the callee asks; the record's cell; the open borrow; obs; auth; _14; …; and so on]
-        calls-at ! fm (Callee 𝓤 H A mem run) known to
-        (and-then ! (passes-local ! 17 refl) (and-then ! (passes-local ! 13 refl) (and-then ! (passes-local ! 27 refl) (and-then ! (passes-local ! 9 refl)
-        (and-then ! (passes-local ! 7 refl) (and-then ! (passes-local ! 5 refl) (no-more !))))))) (λ v.
-        use1 W (later (some (λ (r : Left). (tokens ⊛ ‵ (L.the-row .own r (v ∷ [])))
-        ⊛ raw (ensured 𝓤 H A callee.ended (callee.clauses 𝓤 H A mem run) (κs .1) passed tt r)))) (id⊢ 𝓤 _) $ await ! tt $ pick ! (λ r.
-        split ! $ move ! (1 ∷ []) $ use1 W (some (λ (ws : Lasts callee.ended (κs .1) passed). ‵ (lasts callee.ended (κs .1) passed ws)
-        ⊛ raw (Ensured r ws))) (id⊢ 𝓤 _) $ pick ! (λ ws.
-        split ! $ move ! (2 ∷ []) $ split ! $ move ! (1 ∷ []) $
-        -- [the result; the others' tokens; what says the last values; what is ensured; the record's cell; the open borrow; obs; auth; _14; …; and so on]
-        peeks ! L.the-row (Is L.the-row) (shows 𝓤 H A L.the-row) r (v ∷ []) (λ is′.
-        land ! (from ! (stop !)) (init ! 22 refl (LL.lawful L.the-type L′.the-laws 𝓤 H A W .typed r _ is′ .0)) $
-        rewrite ! 22 (λ (u : Val). ‵ (fat fullShare L′.mir l₇ 0 u)) (ap only (LL.tells L.the-type L′.the-laws r _ is′)) refl $
-        assigns ! (of-opd ! (load ! (from ! (fld ! refl (stop !))) (look-in ! 22 (sub ! 1 refl (whole !))))) (from ! (hop ! (look ! 34 refl) (stop !)))
-        (store-raw ! 4 refl (stored-typed 𝓤 H A W r _ is′)) $
-        assigns ! (of-opd ! (load ! (from ! (fld ! refl (stop !))) (look-in ! 22 (sub ! 0 refl (whole !))))) (from ! (stop !)) (init ! 36 refl
-        (tt, record { fits = answer-fits r _ is′ })) $
-        -- the borrow is closed at the record returned
-        drop ! $ move ! (3 ∷ 4 ∷ 5 ∷ 6 ∷ []) $ closes-record ! tt (r .terminal) (a .0 .ptr .0) (a .0 .ptr .1) (terminal-is r _ is′) $
-        returns ! (look ! 34 refl) $
-        free-at ! 34 refl refl $ free-at ! 32 refl refl $ free-at ! 30 refl refl $ free-at ! 28 refl refl $ free-at ! 26 refl refl $ free-at ! 24 refl refl $
-        free-at ! 22 refl refl $ free-at ! 20 refl refl $ free-at ! 18 refl refl $ free-at ! 16 refl refl $ free-at ! 14 refl refl $ free-at ! 12 refl refl $
-        free-at ! 10 refl refl $ free-at ! 8 refl refl $ free-at ! 6 refl refl $ free0 ! $
-        -- [obs; the borrow; its token; the others' tokens; what says the last values; what is ensured]
-        says-record ! (r .terminal) $ move ! (3 ∷ []) $ fsplit ! $ drop ! $ move ! (1 ∷ 0 ∷ []) $ fjoin ! $ move ! (1 ∷ 2 ∷ []) $ join ! $
-        owned ! u8 (Is u8) (uint-makes 𝓤 H A W w8) (r .answer) (vint w8 (r .answer) ∷ []) (refl, answer-fits r _ is′) $ move ! (1 ∷ []) $
-        by ! (ends-said 𝓤 H A W feed.ended (feed.clauses 𝓤 H A mem run) at-entry (vint w8 (r .answer)) (r .answer) (r .terminal, ws .1))))))))))))))))))))))
+walk : {M : Type 1} (𝓤 : URA M) → Walks 𝓤 code.function feed.ended (feed.clauses 𝓤) #callee callee.ended (callee.clauses 𝓤) vals
+walk 𝓤 H A W mem run C Λ fm known κs qs bounds a g are =
+    qed W ((‵ (flft (κs .0) (qs .0)) ⊛ raw (alive 𝓤 H A callee.signature (κs .1) (qs .1)))
+    ∷ ‵ (owns (typesAt (feed.signature .params) κs) a (written feed.ended vals κs a)) ∷ []) ∵
+    enter ! C Λ code.function _ _ $
+    alloc1 ! (λ l₀. alloc1 ! (λ l₁. alloc1 ! (λ l₂. alloc1 ! (λ l₃. alloc1 ! (λ l₄. alloc1 ! (λ l₅. alloc1 ! (λ l₆. alloc1 ! (λ l₇. alloc1 ! (λ l₈.
+    alloc1 ! (λ l₉. alloc1 ! (λ l₁₀. alloc1 ! (λ l₁₁. alloc1 ! (λ l₁₂. alloc1 ! (λ l₁₃. alloc1 ! (λ l₁₄. alloc0 ! $ params1 ! $
+    pass1 ! (init ! 26 refl (tt, tt)) $ pass1 ! (init ! 24 refl (tt, (tt, (record { fits = are .1 .0 .0 .1 .0 }, tt)))) $
+    pass1 ! (init ! 22 refl (tt, (tt, (record { fits = are .1 .1 .0 .0 .1 .0 }, tt)))) $
+    pass1 ! (init ! 20 refl (tt, (tt, (record { fits = are .1 .1 .1 .0 .0 .1 .0 }, tt)))) $
+    pass1 ! (init ! 18 refl (tt, tt)) $ pass1 ! (init ! 16 refl (tt, tt)) $ pass0 ! $
+    -- the record's borrow is opened
+    move ! (31 ∷ []) $ fsplit ! $ fsplit3 ! $ drop ! $ move ! (33 ∷ []) $ split ! $ move ! (2 ∷ 3 ∷ 0 ∷ []) $
+    opens-record ! tt (a .0 .now) (a .0 .ptr .0) (a .0 .ptr .1) (λ is.
+    -- [the record's cell; what it owns; the open borrow; obs; auth; the others' tokens; what the others own; _14; …; and so on to room for _0; …]
+    assigns ! (of-opd ! (load ! (from ! (hop ! (look ! 33 refl) (stop !))) (look-raw ! 0 refl))) (from ! (stop !))
+    (init ! 19 refl (record-typed 𝓤 H A W (a .0 .now) is)) $
+    assigns ! (addr ! (from ! (fld ! refl (hop ! (look-in ! 31 (sub ! 0 refl (whole !))) (stop !))))) (from ! (stop !)) (init ! 17 refl (tt, tt)) $
+    assigns ! (agg ! (and-then ! (passes-local ! 17 refl) (and-then ! (load ! (from ! (fld ! refl (stop !))) (look-in ! 31 (sub ! 1 refl (whole !))))
+    (no-more !)))) (from ! (stop !)) (init ! 15 refl (tt, (tt, (record { fits = are .1 .0 .0 .1 .0 }, tt)))) $
+    assigns ! (addr ! (from ! (fld ! refl (hop ! (look-in ! 27 (sub ! 0 refl (whole !))) (stop !))))) (from ! (stop !)) (init ! 13 refl (tt, tt)) $
+    assigns ! (agg ! (and-then ! (passes-local ! 13 refl) (and-then ! (load ! (from ! (fld ! refl (stop !))) (look-in ! 27 (sub ! 1 refl (whole !))))
+    (no-more !)))) (from ! (stop !)) (init ! 11 refl (tt, (tt, (record { fits = are .1 .1 .1 .0 .0 .1 .0 }, tt)))) $
+    lends ! 25 9 refl refl (tt, tt) $ lends ! 23 7 refl refl (tt, tt) $
+    move ! (1 ∷ 6 ∷ []) $ fjoin ! $ move ! (5 ∷ 0 ∷ []) $
+    -- [the others' tokens; what is passed; the record's cell; the open borrow; obs; auth; _14; …; and so on]
+    calls-met ! fm callee.ended (callee.clauses 𝓤 H A mem run) known
+    ((κs .1, qs .1, tt, (a .0 .now, a .1), (spelled (a .0 .now), written feed.ended vals κs a .1)), tt) (id⊢ 𝓤 (emp 𝓤))
+    (and-then ! (passes-local ! 17 refl) (and-then ! (passes-local ! 13 refl) (and-then ! (passes-local ! 27 refl)
+    (and-then ! (passes-local ! 9 refl) (and-then ! (passes-local ! 7 refl) (and-then ! (passes-local ! 5 refl) (no-more !))))))) (λ v r ws. move ! (1 ∷ []) $
+    -- [the result; the others' tokens; what says the last values; what is ensured; the record's cell; the open borrow; obs; auth; _14; …; and so on]
+    peeks ! L.the-row (Is L.the-row) (shows 𝓤 H A L.the-row) r (v ∷ []) (λ is′.
+    land ! (from ! (stop !)) (init ! 22 refl (LL.lawful L.the-type L′.the-laws 𝓤 H A W .typed r _ is′ .0)) $
+    rewrite ! 22 (λ (u : Val). ‵ (fat fullShare L′.mir l₇ 0 u)) (ap only (LL.tells L.the-type L′.the-laws r _ is′)) refl $
+    assigns ! (of-opd ! (load ! (from ! (fld ! refl (stop !))) (look-in ! 22 (sub ! 1 refl (whole !))))) (from ! (hop ! (look ! 34 refl) (stop !)))
+    (store-raw ! 4 refl (stored-typed 𝓤 H A W r _ is′)) $
+    assigns ! (of-opd ! (load ! (from ! (fld ! refl (stop !))) (look-in ! 22 (sub ! 0 refl (whole !))))) (from ! (stop !))
+    (init ! 36 refl (tt, record { fits = answer-fits r _ is′ })) $
+    -- the borrow is closed at the record returned
+    drop ! $ move ! (3 ∷ 4 ∷ 5 ∷ 6 ∷ []) $ closes-record ! tt (r .terminal) (a .0 .ptr .0) (a .0 .ptr .1) (terminal-is r _ is′) $
+    returns ! (look ! 34 refl) $
+    free-at ! 34 refl refl $ free-at ! 32 refl refl $ free-at ! 30 refl refl $ free-at ! 28 refl refl $ free-at ! 26 refl refl $ free-at ! 24 refl refl $
+    free-at ! 22 refl refl $ free-at ! 20 refl refl $ free-at ! 18 refl refl $ free-at ! 16 refl refl $ free-at ! 14 refl refl $ free-at ! 12 refl refl $
+    free-at ! 10 refl refl $ free-at ! 8 refl refl $ free-at ! 6 refl refl $ free0 ! $
+    -- [obs; the borrow; its token; the others' tokens; what says the last values; what is ensured]
+    says-stored ! r _ is′ $
+    by ! (ends-told 𝓤 H A W feed.ended (feed.clauses 𝓤 H A mem run) ((κs, qs, bounds, a, written feed.ended vals κs a), g)
+    (vint w8 (r .answer)) (r .answer) (r .terminal, ws .1))))))))))))))))))))
 
 pub pankholim-feed-spec : {M : Type 1} → stated.statement M
 unfolding code.routine
 pankholim-feed-spec 𝓤 H 𝓜 𝓖 𝓡 =
-    let A = 𝓖 .A in
-    let W = givenOf 𝓤 H 𝓜 𝓖 in
-    concludes 𝓤 H 𝓜 𝓖 𝓡 (tripleOf 𝓤 H A feed.signature (feed.spec 𝓤 H A (𝓜 .mem) (𝓡 .run))) (Callee 𝓤 H A (𝓜 .mem)
-    (𝓡 .run)) code.env #feed #callee code.function callee-def.routine
-    (code.unfolded 𝓤 H 𝓜 𝓡) code.calls-pankholim·by-value·feed (callee-thm.met 𝓤 H 𝓜 𝓖 𝓡)
-    (λ C Λ fm known. spelled-out 𝓤 H A feed.signature (feed.spec 𝓤 H A (𝓜 .mem) (𝓡 .run)) (WpFn 𝓤 H C Λ code.function)
-    (λ κs. (ptr-vals, (slice-vals, (slice-vals, (slice-vals, (ptr-vals, (ptr-vals, tt)))))))
-    (λ κs. (
-      mut-tells (named 0) (κs .0) T.the-row,
-      (
-        mut-slice-tells (named 1) (κs .1 .0) u16,
-        (
-          shr-slice-tells (named 2) (κs .1 .1 .0) u8,
-          (
-            mut-slice-tells
-                (named 3) (κs .1 .1 .1 .0) u8,
-            (mut-tells (named 4) (κs .1 .1 .1 .1 .0) usize, (mut-tells (named 5) (κs .1 .1 .1 .1 .1 .0) usize, tt)),
-          ),
-        ),
-      ),
-    ))
-    (λ κs qs bounds a _ are. via 𝓤 _ (fst∗ 𝓤 _ (emp 𝓤)) (walk 𝓤 H A W (𝓜 .mem) (𝓡 .run) κs qs a C Λ fm known (are .1 .0 .0 .1) (are .1 .1 .0 .0 .1)
-    (are .1 .1 .1 .0 .0 .1))))
+    concludes 𝓤 H 𝓜 𝓖 𝓡 feed.ended (feed.clauses 𝓤) callee.ended (callee.clauses 𝓤) vals
+    (λ κs. mut-tells (named 0) (κs .0) T.the-row ⨾ mut-slice-tells (named 1) (κs .1 .0) u16 ⨾ shr-slice-tells (named 2) (κs .1 .1 .0) u8
+    ⨾ mut-slice-tells (named 3) (κs .1 .1 .1 .0) u8 ⨾ mut-tells (named 4) (κs .1 .1 .1 .1 .0) usize ⨾ mut-tells (named 5) (κs .1 .1 .1 .1 .1 .0) usize ⨾ tt)
+    code.env #feed #callee code.function callee-def.routine (code.unfolded 𝓤 H 𝓜 𝓡) code.calls-pankholim·by-value·feed
+    (callee-thm.met 𝓤 H 𝓜 𝓖 𝓡) (walk 𝓤)

@@ -1,11 +1,10 @@
 -- `text::text_len` meets its contract. The loop's invariant: `len` is the length of the text of the first rows, which is small enough.
-use mathlib.Core.Path.{_≡_, refl, ap, _∙_}
-use mathlib.Core.List.{List}
-use Prim.Native.Nat.{ℕ, _+_, _-_, _/_, _≤_}
+use mathlib.Core.Path.{_≡_, refl}
+use Prim.Native.Nat.{_+_, _-_, _/_, _≤_}
 use native.Mathlib.Omega.{arith}
 use lib.ListN.{length}
 use borrow.Author.Needs.{needs}
-use Rattle.text.specs.Text.{line, lines, textOf}
+use Rattle.text.specs.Text.{lines, textOf}
 use Rattle.text.proofs.TextLaws.{text-more-length, text-short}
 use Rattle.text.proofs.text_len.Statement.{statement}
 use Rattle.text.proofs.text_len.Tie as tie
@@ -16,34 +15,19 @@ Inv-loop page rows len₀ row₀ len row = (row ≤ rows) × (len ≡ length (te
 abbrev μ-loop : tie.MeasureT-loop
 μ-loop page rows len₀ row₀ len row = rows - row
 
-loop-holds : tie.Need-loop-holds Inv-loop μ-loop
-unfolding lines textOf
-loop-holds c = (omega arith, refl)
-
 -- the sum of a turn
 total : (c : tie.After-line-len Inv-loop μ-loop)
-    → c .before .before .before .loop .len + c .line-len .result ≡ length (textOf (c .before .before .before .loop .row + 1) (c .before .before .before .before .before .args .page .now))
+    → let head = c .before .before .before in
+    head .loop .len + c .line-len .result ≡ length (textOf (head .loop .row + 1) (head .before .before .args .page .now))
 total c =
     let head = c .before .before .before in
-    let line-is = ap (λ (r : List ℕ). length (line r)) (c .before .row-of .ensures) in
-    omega (arith, text-more-length (head .loop .row) (head .before .before .args .page .now), c .line-len .ensures)
-
-add-len : tie.Need-add-len Inv-loop μ-loop
-add-len c =
-    let head = c .before .before .before in
-    omega (arith, total c, text-short (head .loop .row + 1) (head .before .before .args .page .now))
-
-loop-again : tie.Need-loop-again Inv-loop μ-loop
-loop-again c = (omega arith, total c)
-
-returns : tie.Need-returns Inv-loop μ-loop
-returns c =
-    let page = c .before .before .before .args .page .now in
-    let all : c .before .loop .row ≡ length page / 80 = omega arith in
-    c .before .loop .inv .1 ∙ ap (λ (k : ℕ). length (textOf k page)) all
+    rw (text-more-length, ← c .before .row-of .ensures, ← c .line-len .ensures, ← head .loop .inv .1)
 
 pub text-len-spec : {M : Type 1} → statement M
+unfolding lines textOf
 text-len-spec =
-    tie.close
-    (tie.spec Inv-loop μ-loop loop-holds (λ c κs. search needs) (λ c κs. search needs) add-len (λ c. search needs) (λ c. search needs) loop-again
-    returns)
+    tie.close (tie.spec
+    Inv-loop μ-loop (λ c. (omega arith, refl)) (λ c κs. search needs) (λ c κs. search needs)
+    (λ c. let head = c .before .before .before in omega (arith, total c, text-short (head .loop .row + 1) (head .before .before .args .page .now)))
+    (λ c. search needs) (λ c. search needs) (λ c. (omega arith, total c))
+    (λ c. let all : c .before .loop .row ≡ length (c .before .before .before .args .page .now) / 80 = omega arith in rw all at (c .before .loop .inv .1)))

@@ -18,10 +18,6 @@ Inv-loop page out₀ rows next₀ row₀ out next row = (row ≤ rows) × Wrote 
 abbrev μ-loop : tie.MeasureT-loop
 μ-loop page out₀ rows next₀ row₀ out next row = rows - row
 
-loop-holds : tie.Need-loop-holds Inv-loop μ-loop
-unfolding lines textOf
-loop-holds c = (omega arith, wrote-none _ _)
-
 write-line-requires : tie.Need-write-line-requires Inv-loop μ-loop
 write-line-requires c κs =
     let head = c .before .before .before in
@@ -32,23 +28,15 @@ write-line-requires c κs =
     let room = text-part (k + 1) (length page / 80) page (omega arith) in
     omega (arith, start .pre, head .loop .inv .1, text-more-length k page)
 
-loop-again : tie.Need-loop-again Inv-loop μ-loop
-loop-again c =
-    let called = c .before .before in
-    let head = called .before .before .before .before in
-    let page = head .before .before .before .args .page .now in (
-      omega arith,
-      rw (text-more (head .loop .row) page, ← called .before .before .row-of .ensures)
-          (wrote-more (head .loop .inv .1) (called .write-line .ensures)),
-    )
-
-returns : tie.Need-returns Inv-loop μ-loop
-returns c =
-    let all : c .before .loop .row ≡ length (c .before .before .before .before .args .page .now) / 80 = omega arith in
-    rw all at (c .before .loop .inv .1)
-
 pub write-rows-spec : {M : Type 1} → statement M
+unfolding lines textOf
 write-rows-spec =
-    tie.close
-    (tie.spec Inv-loop μ-loop loop-holds (λ c κs. search needs) write-line-requires (λ c. search needs) (λ c. search needs) loop-again
-    (λ c. search needs) returns)
+    tie.close (tie.spec
+    Inv-loop μ-loop (λ c. (omega arith, wrote-none _ _)) (λ c κs. search needs) write-line-requires (λ c. search needs) (λ c. search needs)
+    (λ c. let called = c .before .before in
+    let head = called .before .before .before .before in
+    let more = wrote-more (head .loop .inv .1) (called .write-line .ensures) in
+    (omega arith, rw (text-more, ← called .before .before .row-of .ensures) more))
+    (λ c. search needs)
+    (λ c. let all : c .before .loop .row ≡ length (c .before .before .before .before .args .page .now) / 80 = omega arith in
+    rw all at (c .before .loop .inv .1)))

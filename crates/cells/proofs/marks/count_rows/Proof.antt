@@ -3,8 +3,5 @@ use Rattle.cells.proofs.BitLaws.{ones-size}
 use Rattle.cells.proofs.marks.count_rows.Statement.{statement}
 use Rattle.cells.proofs.marks.count_rows.Tie as tie
 
-returns : tie.Need-returns
-returns c = λ n l. ones-size n (c .args .bits) l
-
 pub count-rows-spec : {M : Type 1} → statement M
-count-rows-spec = tie.close (tie.spec returns)
+count-rows-spec = tie.close (tie.spec (λ c. λ n l. ones-size n (c .args .bits) l))

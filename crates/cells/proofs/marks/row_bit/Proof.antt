@@ -1,7 +1,4 @@
 -- A one that is shifted by less than 64 places stays a power of two.
-use mathlib.Core.Path.{sym}
-use Prim.Native.Nat.{_^_}
-use native.Mathlib.Nat.{zero-mul}
 use native.Mathlib.Omega.{arith}
 use lib.Dec.{lit<}
 use lib.Pow.{shl-exact}
@@ -9,11 +6,8 @@ use borrow.Author.Needs.{needs}
 use Rattle.cells.proofs.marks.row_bit.Statement.{statement}
 use Rattle.cells.proofs.marks.row_bit.Tie as tie
 
-returns : tie.Need-returns
-returns c = rw (c .if1 .taken) (shl-exact 1 (c .before .args .row) 64 (lit< tt) (omega arith))
-
-returns-2 : tie.Need-returns-2
-returns-2 c = rw (c .if1 .left) (sym (zero-mul (2 ^ c .before .args .row)))
-
 pub row-bit-spec : {M : Type 1} → statement M
-row-bit-spec = tie.close (tie.spec (λ c. search needs) returns returns-2)
+row-bit-spec =
+    tie.close (tie.spec
+    (λ c. search needs) (λ c. rw (c .if1 .taken) (shl-exact 1 (c .before .args .row) 64 (lit< tt) (omega arith)))
+    (λ c. rw (c .if1 .left) (omega arith)))

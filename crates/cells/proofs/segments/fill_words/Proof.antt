@@ -1,35 +1,30 @@
 -- The loop stores a list that repeats the word.
-use mathlib.Core.Path.{refl, sym}
+use mathlib.Core.Path.{_≡_, refl, sym}
 use native.Mathlib.Omega.{arith}
-use lib.ListN.{length-replicate, getD-replicate, replicate}
+use lib.ListN.{length, length-set, length-replicate, getD-replicate, replicate}
 use borrow.Author.Needs.{needs}
 use Prim.Native.Nat.{_-_, _≤_}
-use Rattle.cells.proofs.Storing.{Stored, stored-none, stored-up, stored-all}
+use Rattle.cells.specs.Segments.{Pasted}
+use Rattle.cells.proofs.Storing.{pasted-none, pasted-up, pasted-all}
 use Rattle.cells.proofs.segments.fill_words.Statement.{statement}
 use Rattle.cells.proofs.segments.fill_words.Tie as tie
 
 abbrev Inv-loop : tie.InvT-loop
-Inv-loop page₀ to len word changed₀ k₀ page changed k = (k ≤ len) × Stored page₀ to (replicate len word) 0 k page changed
+Inv-loop page₀ to len word changed₀ k₀ page changed k = (k ≤ len) × (length page ≡ length page₀) × Pasted page₀ page to (replicate len word) k changed
 
 abbrev μ-loop : tie.MeasureT-loop
 μ-loop page₀ to len word changed₀ k₀ page changed k = len - k
 
-loop-holds : tie.Need-loop-holds Inv-loop μ-loop
-loop-holds c = (omega arith, stored-none _ _ _ _)
-
 loop-again : tie.Need-loop-again Inv-loop μ-loop
 loop-again c =
     let l = c .before .before in
-    let a = l .before .args in (
-      omega arith,
-      stored-up (l .loop .inv .1) _ _ (omega arith) (omega arith) (sym (getD-replicate (a .len) (l .loop .k) (a .word) 0 (omega arith))) refl,
-    )
-
-returns : tie.Need-returns Inv-loop μ-loop
-returns c = stored-all (c .before .loop .inv .1) _ refl (omega arith) (omega arith) (simp length-replicate (omega arith))
+    let put = sym (getD-replicate (l .before .args .len) (l .loop .k) (l .before .args .word) 0 (omega arith)) in
+    (omega arith, rw length-set (l .loop .inv .1), pasted-up (l .loop .inv .2) _ _ (omega arith) (simp length-replicate (omega arith)) put refl)
 
 pub fill-words-spec : {M : Type 1} → statement M
 fill-words-spec =
-    tie.close
-    (tie.spec Inv-loop μ-loop loop-holds (λ c. search needs) (λ c. search needs) (λ c. search needs) (λ c. search needs) (λ c. search needs)
-    (λ c. search needs) (λ c. search needs) (λ c. search needs) loop-again (λ c. search needs) returns)
+    tie.close (tie.spec Inv-loop μ-loop
+    (λ c. (omega arith, refl, pasted-none _ _ _ _ refl))
+    (λ c. search needs) (λ c. search needs) (λ c. search needs) (λ c. search needs) (λ c. search needs) (λ c. search needs) (λ c. search needs)
+    (λ c. search needs) loop-again
+    (λ c. search needs) (λ c. pasted-all (c .before .loop .inv .2) _ (omega arith)))

@@ -5,12 +5,9 @@ use borrow.Author.Needs.{needs}
 use Rattle.cells.proofs.words.pack.Statement.{statement}
 use Rattle.cells.proofs.words.pack.Tie as tie
 
-returns : tie.Need-returns
-unfolding packed
-returns c = omega arith
-
 pub pack-spec : {M : Type 1} → statement M
+unfolding packed
 pack-spec =
-    tie.close
-    (tie.spec (λ c. search needs) (λ c κs. search needs) (λ c. search needs) (λ c. search needs) (λ c. search needs) (λ c κs. search needs)
-    (λ c. search needs) (λ c. search needs) (λ c κs. search needs) (λ c. search needs) (λ c. search needs) returns)
+    tie.close (tie.spec
+    (λ c. search needs) (λ c κs. search needs) (λ c. search needs) (λ c. search needs) (λ c. search needs) (λ c κs. search needs) (λ c. search needs)
+    (λ c. search needs) (λ c κs. search needs) (λ c. search needs) (λ c. search needs) (λ c. omega arith))

@@ -1,15 +1,10 @@
 -- It is the definition at the row's bounds.
-use mathlib.Core.Path.{_∙_}
-use native.Mathlib.Omega.{arith}
 use borrow.Author.Needs.{needs}
 use Rattle.csi.proofs.erasing.selective_erase_in_line.Statement.{statement}
 use Rattle.csi.proofs.erasing.selective_erase_in_line.Tie as tie
 
-add-erase-selectively : tie.Need-add-erase-selectively
-add-erase-selectively c = omega (arith, c .row-start .ensures)
-
-returns : tie.Need-returns
-returns c = c .erase-selectively .ensures ∙ rw (c .before .row-start .ensures)
-
 pub selective-erase-in-line-spec : {M : Type 1} → statement M
-selective-erase-in-line-spec = tie.close (tie.spec (λ c κs. search needs) add-erase-selectively (λ c κs. search needs) returns)
+selective-erase-in-line-spec =
+    tie.close (tie.spec
+    (λ c κs. search needs) (λ c. search (needs, c .row-start .ensures)) (λ c κs. search needs)
+    (λ c. rw (c .erase-selectively .ensures, c .before .row-start .ensures)))

@@ -1,6 +1,4 @@
 -- The edit is the definition's, and the cursor goes to column 1.
-use mathlib.Core.Path.{_∙_}
-use native.Mathlib.Omega.{arith}
 use borrow.Author.Needs.{needs}
 use Rattle.csi.proofs.inserting.insert_lines.Statement.{statement}
 use Rattle.csi.proofs.inserting.insert_lines.Tie as tie
@@ -8,10 +6,11 @@ use Rattle.csi.proofs.inserting.insert_lines.Tie as tie
 returns : tie.Need-returns
 returns c =
     let below = c .before .before .before in
-    c .one-edit .ensures ∙ rw (c .before .to-column .ensures, c .before .before .capped .ensures, below .rows-below .ensures, below .before .before .before .stops-of .ensures)
+    rw (c .one-edit .ensures, c .before .to-column .ensures, c .before .before .capped .ensures, below .rows-below .ensures)
+    (rw (below .before .before .before .stops-of .ensures))
 
 pub insert-lines-spec : {M : Type 1} → statement M
 insert-lines-spec =
-    tie.close
-    (tie.spec (λ c κs. search needs) (λ c. search needs) (λ c. rw (c .before .before .stops-of .ensures) (omega arith)) (λ c κs. search needs) (λ c κs. search needs) (λ c κs. search needs) (λ c κs. search needs)
-    returns)
+    tie.close (tie.spec
+    (λ c κs. search needs) (λ c. search needs) (λ c. search (needs, c .before .before .stops-of .ensures)) (λ c κs. search needs) (λ c κs. search needs)
+    (λ c κs. search needs) (λ c κs. search needs) returns)

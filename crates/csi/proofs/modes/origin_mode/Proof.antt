@@ -3,8 +3,5 @@ use borrow.Author.Needs.{needs}
 use Rattle.csi.proofs.modes.origin_mode.Statement.{statement}
 use Rattle.csi.proofs.modes.origin_mode.Tie as tie
 
-returns : tie.Need-returns
-returns c = rw (c .home .ensures)
-
 pub origin-mode-spec : {M : Type 1} → statement M
-origin-mode-spec = tie.close (tie.spec (λ c κs. search needs) returns)
+origin-mode-spec = tie.close (tie.spec (λ c κs. search needs) (λ c. cc))

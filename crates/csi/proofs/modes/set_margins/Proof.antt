@@ -1,8 +1,5 @@
--- A top above the bottom that is asked for fits a byte, as that does.
-use mathlib.Core.Path.{_≡_, _∙_}
-use mathlib.Core.Bool.{true}
+-- A top above the bottom that is requested fits a byte, as that does.
 use Prim.Native.Nat.{_<_}
-use lib.Dec.{ltb}
 use borrow.Author.Needs.{needs}
 use borrow.Author.Tests.{ltb-true}
 use Rattle.csi.proofs.modes.set_margins.Statement.{statement}
@@ -12,20 +9,17 @@ cast-top : tie.Need-cast-top
 cast-top c =
     let bottom = c .before in
     let get = bottom .before in
-    let above : ltb (c .n .result) (bottom .asked-bottom .result) ≡ true =
-    rw (c .n .ensures, bottom .asked-bottom .ensures, get .get .ensures) (get .before .pre) in
-    let low : c .n .result < bottom .asked-bottom .result = ltb-true _ _ above in
+    let low : c .n .result < bottom .requested-bottom .result =
+    ltb-true _ _ (rw (c .n .ensures, bottom .requested-bottom .ensures, get .get .ensures) (get .before .pre)) in
     search needs
 
 returns : tie.Need-returns
 returns c =
-    let home = c .before in
-    let n = home .before in
+    let n = c .before .before in
     let bottom = n .before in
-    c .unedited .ensures ∙ rw (home .home .ensures, n .n .ensures, bottom .asked-bottom .ensures, bottom .before .get .ensures)
+    rw (c .unedited .ensures, c .before .home .ensures, n .n .ensures, bottom .requested-bottom .ensures, bottom .before .get .ensures)
 
 pub set-margins-spec : {M : Type 1} → statement M
 set-margins-spec =
-    tie.close
-    (tie.spec (λ c κs. search needs) (λ c κs. search needs) (λ c κs. search needs) cast-top
-    (λ c κs. search needs) (λ c κs. search needs) returns)
+    tie.close (tie.spec
+    (λ c κs. search needs) (λ c κs. search needs) (λ c κs. search needs) cast-top (λ c κs. search needs) (λ c κs. search needs) returns)

@@ -3,8 +3,5 @@ use borrow.Author.Needs.{needs}
 use Rattle.csi.proofs.moves.cursor_down.Statement.{statement}
 use Rattle.csi.proofs.moves.cursor_down.Tie as tie
 
-returns : tie.Need-returns
-returns c = rw (c .unedited .ensures, c .before .down .ensures, c .before .before .bottom-stop .ensures)
-
 pub cursor-down-spec : {M : Type 1} → statement M
-cursor-down-spec = tie.close (tie.spec (λ c κs. search needs) (λ c κs. search needs) (λ c κs. search needs) returns)
+cursor-down-spec = tie.close (tie.spec (λ c κs. search needs) (λ c κs. search needs) (λ c κs. search needs) (λ c. cc))

@@ -3,8 +3,5 @@ use borrow.Author.Needs.{needs}
 use Rattle.csi.proofs.moves.cursor_left.Statement.{statement}
 use Rattle.csi.proofs.moves.cursor_left.Tie as tie
 
-returns : tie.Need-returns
-returns c = rw (c .unedited .ensures, c .before .left .ensures, c .before .before .left-stop .ensures)
-
 pub cursor-left-spec : {M : Type 1} → statement M
-cursor-left-spec = tie.close (tie.spec (λ c κs. search needs) (λ c κs. search needs) (λ c κs. search needs) returns)
+cursor-left-spec = tie.close (tie.spec (λ c κs. search needs) (λ c κs. search needs) (λ c κs. search needs) (λ c. cc))

@@ -3,8 +3,5 @@ use borrow.Author.Needs.{needs}
 use Rattle.csi.proofs.moves.cursor_right.Statement.{statement}
 use Rattle.csi.proofs.moves.cursor_right.Tie as tie
 
-returns : tie.Need-returns
-returns c = rw (c .unedited .ensures, c .before .right .ensures, c .before .before .right-stop .ensures)
-
 pub cursor-right-spec : {M : Type 1} → statement M
-cursor-right-spec = tie.close (tie.spec (λ c κs. search needs) (λ c κs. search needs) (λ c κs. search needs) returns)
+cursor-right-spec = tie.close (tie.spec (λ c κs. search needs) (λ c κs. search needs) (λ c κs. search needs) (λ c. cc))

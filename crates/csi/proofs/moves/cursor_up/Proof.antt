@@ -3,8 +3,5 @@ use borrow.Author.Needs.{needs}
 use Rattle.csi.proofs.moves.cursor_up.Statement.{statement}
 use Rattle.csi.proofs.moves.cursor_up.Tie as tie
 
-returns : tie.Need-returns
-returns c = rw (c .unedited .ensures, c .before .up .ensures, c .before .before .top-stop .ensures)
-
 pub cursor-up-spec : {M : Type 1} → statement M
-cursor-up-spec = tie.close (tie.spec (λ c κs. search needs) (λ c κs. search needs) (λ c κs. search needs) returns)
+cursor-up-spec = tie.close (tie.spec (λ c κs. search needs) (λ c κs. search needs) (λ c κs. search needs) (λ c. cc))

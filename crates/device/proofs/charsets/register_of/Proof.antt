@@ -3,17 +3,6 @@ use borrow.Author.Tests.{ne-eqb}
 use Rattle.device.proofs.charsets.register_of.Statement.{statement}
 use Rattle.device.proofs.charsets.register_of.Tie as tie
 
-returns : tie.Need-returns
-returns c = simp (c .match .keys1)
-
-returns-2 : tie.Need-returns-2
-returns-2 c = simp (c .match .keys2)
-
-returns-3 : tie.Need-returns-3
-returns-3 c = simp (c .match .keys3)
-
-returns-4 : tie.Need-returns-4
-returns-4 c = rw (ne-eqb _ _ (c .match .rest .0 .0 .1), ne-eqb _ _ (c .match .rest .0 .1), ne-eqb _ _ (c .match .rest .1))
-
 pub register-of-spec : {M : Type 1} → statement M
-register-of-spec = tie.close (tie.spec returns returns-2 returns-3 returns-4)
+register-of-spec =
+    tie.close (tie.spec (λ c. simp (c .match .keys1)) (λ c. simp (c .match .keys2)) (λ c. simp (c .match .keys3)) (λ c. search ne-eqb))

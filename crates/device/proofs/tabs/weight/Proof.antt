@@ -8,8 +8,5 @@ use lib.Dec.{lit<}
 use Rattle.device.proofs.tabs.weight.Statement.{statement}
 use Rattle.device.proofs.tabs.weight.Tie as tie
 
-returns : tie.Need-returns
-returns c = shl-exact 1 (c .args .k) 8 (lit< tt) (omega arith) ∙ one-mul _
-
 pub weight-spec : {M : Type 1} → statement M
-weight-spec = tie.close (tie.spec (λ c. search needs) returns)
+weight-spec = tie.close (tie.spec (λ c. search needs) (λ c. shl-exact 1 (c .args .k) 8 (lit< tt) (omega arith) ∙ one-mul _))

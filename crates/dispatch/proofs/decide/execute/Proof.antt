@@ -15,12 +15,6 @@ left c =
     let args = c .before .args in
     ap (isIgnored (args .core)) (c .unless-ignored .ensures) ∙ unignored (args .core) (args .action)
 
-clears-wrap-requires : tie.Need-clears-wrap-requires
-clears-wrap-requires c κs = left c
-
-effect-requires : tie.Need-effect-requires
-effect-requires c κs = (c .before .before .pre, left (c .before))
-
 returns : tie.Need-returns
 unfolding executed
 returns c =
@@ -33,4 +27,6 @@ returns c =
     ∙ executed-unignored (args .core) (args .action)
 
 pub execute-spec : {M : Type 1} → statement M
-execute-spec = tie.close (tie.spec (λ c κs. search needs) clears-wrap-requires effect-requires (λ c κs. search needs) returns)
+execute-spec =
+    tie.close (tie.spec
+    (λ c κs. search needs) (λ c κs. left c) (λ c κs. (c .before .before .pre, left (c .before))) (λ c κs. search needs) returns)

@@ -4,8 +4,5 @@ use borrow.Author.Needs.{needs}
 use Rattle.dispatch.proofs.heard.private_ignored.Statement.{statement}
 use Rattle.dispatch.proofs.heard.private_ignored.Tie as tie
 
-returns : tie.Need-returns
-returns c = rw (c .get .ensures) (simp or-false)
-
 pub private-ignored-spec : {M : Type 1} → statement M
-private-ignored-spec = tie.close (tie.spec (λ c κs. search needs) returns)
+private-ignored-spec = tie.close (tie.spec (λ c κs. search needs) (λ c. rw (c .get .ensures) (simp or-false)))

@@ -14,16 +14,16 @@ use Rattle.dispatch.proofs.wrap.plain_clears.Tie as tie
 
 returns-15 : tie.Need-returns-15
 returns-15 c =
-    let b = c .before .args .last in
-    let r = c .match .rest in
+    let rest = c .match .rest in
     sym
     (alike-at (λ (x : ℕ). member x plainFinals && not (member x keepingFinals))
     (λ (x : ℕ). member x (0x40 ∷ 0x41 ∷ 0x42 ∷ 0x43 ∷ 0x44 ∷ 0x48 ∷ 0x4A ∷ 0x4B ∷ 0x4C ∷ 0x4D ∷ 0x50 ∷ 0x58 ∷ 0x66 ∷ 0x72 ∷ []))
-    256 refl b (search needs)
-    ∙ rw (ne-eqb b 0x40 (r .0 .0 .0 .0 .0 .0 .0 .0 .0 .0 .0 .0 .0 .1), ne-eqb b 0x41 (r .0 .0 .0 .0 .0 .0 .0 .0 .0 .0 .0 .0 .1), ne-eqb b 0x42 (r .0 .0 .0 .0 .0 .0 .0 .0 .0 .0 .0 .1), ne-eqb b 0x43 (r .0 .0 .0 .0 .0 .0 .0 .0 .0 .0 .1), ne-eqb b 0x44 (r .0 .0 .0 .0 .0 .0 .0 .0 .0 .1), ne-eqb b 0x48 (r .0 .0 .0 .0 .0 .0 .0 .0 .1), ne-eqb b 0x4A (r .0 .0 .0 .0 .0 .0 .0 .1))
-    (rw (ne-eqb b 0x4B (r .0 .0 .0 .0 .0 .0 .1), ne-eqb b 0x4C (r .0 .0 .0 .0 .0 .1), ne-eqb b 0x4D (r .0 .0 .0 .0 .1), ne-eqb b 0x50 (r .0 .0 .0 .1), ne-eqb b 0x58 (r .0 .0 .1), ne-eqb b 0x66 (r .0 .1), ne-eqb b 0x72 (r .1))))
+    256 refl (c .before .args .last) (search needs)
+    ∙ search (ne-eqb, rest, rest .0 .0 .0 .0 .0 .0 .0))
 
 pub plain-clears-spec : {M : Type 1} → statement M
 plain-clears-spec =
-    tie.close
-    (tie.spec (λ c. simp (c .match .keys1)) (λ c. simp (c .match .keys2)) (λ c. simp (c .match .keys3)) (λ c. simp (c .match .keys4)) (λ c. simp (c .match .keys5)) (λ c. simp (c .match .keys6)) (λ c. simp (c .match .keys7)) (λ c. simp (c .match .keys8)) (λ c. simp (c .match .keys9)) (λ c. simp (c .match .keys10)) (λ c. simp (c .match .keys11)) (λ c. simp (c .match .keys12)) (λ c. simp (c .match .keys13)) (λ c. simp (c .match .keys14)) returns-15)
+    tie.close (tie.spec
+    (λ c. simp (c .match .keys1)) (λ c. simp (c .match .keys2)) (λ c. simp (c .match .keys3)) (λ c. simp (c .match .keys4)) (λ c. simp (c .match .keys5))
+    (λ c. simp (c .match .keys6)) (λ c. simp (c .match .keys7)) (λ c. simp (c .match .keys8)) (λ c. simp (c .match .keys9)) (λ c. simp (c .match .keys10))
+    (λ c. simp (c .match .keys11)) (λ c. simp (c .match .keys12)) (λ c. simp (c .match .keys13)) (λ c. simp (c .match .keys14)) returns-15)

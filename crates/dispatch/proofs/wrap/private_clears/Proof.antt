@@ -6,18 +6,6 @@ use Rattle.dispatch.proofs.WrapLaws.{private-rest}
 use Rattle.dispatch.proofs.wrap.private_clears.Statement.{statement}
 use Rattle.dispatch.proofs.wrap.private_clears.Tie as tie
 
-returns : tie.Need-returns
-returns c = simp (c .match .keys1)
-
-returns-2 : tie.Need-returns-2
-returns-2 c = simp (c .match .keys2)
-
-returns-3 : tie.Need-returns-3
-returns-3 c = simp (c .before .match .keys3) (c .has .ensures ∙ sym (Bool·not-not _))
-
-returns-4 : tie.Need-returns-4
-returns-4 c = simp (c .before .before .match .keys4) (rw (c .before .has2 .ensures, c .has3 .ensures) (sym (Bool·not-not _)))
-
 returns-5 : tie.Need-returns-5
 returns-5 c =
     let rest = c .match .rest in
@@ -25,5 +13,7 @@ returns-5 c =
 
 pub private-clears-spec : {M : Type 1} → statement M
 private-clears-spec =
-    tie.close
-    (tie.spec (λ c κs. search needs) (λ c κs. search needs) (λ c κs. search needs) returns returns-2 returns-3 returns-4 returns-5)
+    tie.close (tie.spec
+    (λ c κs. search needs) (λ c κs. search needs) (λ c κs. search needs) (λ c. simp (c .match .keys1)) (λ c. simp (c .match .keys2))
+    (λ c. simp (c .before .match .keys3) (c .has .ensures ∙ sym (Bool·not-not _)))
+    (λ c. simp (c .before .before .match .keys4) (rw (c .before .has2 .ensures, c .has3 .ensures) (sym (Bool·not-not _)))) returns-5)

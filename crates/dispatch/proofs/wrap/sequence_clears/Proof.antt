@@ -5,9 +5,6 @@ use Rattle.dispatch.proofs.WrapLaws.{others-clear}
 use Rattle.dispatch.proofs.wrap.sequence_clears.Statement.{statement}
 use Rattle.dispatch.proofs.wrap.sequence_clears.Tie as tie
 
-returns : tie.Need-returns
-returns c = rw (← c .before .before .is-plain .ensures, c .before .if1 .taken) (c .plain-clears .ensures)
-
 returns-2 : tie.Need-returns-2
 returns-2 c =
     let marked = c .before .before in
@@ -24,6 +21,6 @@ returns-3 c =
 
 pub sequence-clears-spec : {M : Type 1} → statement M
 sequence-clears-spec =
-    tie.close
-    (tie.spec (λ c κs. search needs) (λ c κs. search needs) returns (λ c κs. search needs) (λ c κs. search needs) returns-2
-    (λ c κs. search needs) returns-3)
+    tie.close (tie.spec
+    (λ c κs. search needs) (λ c κs. search needs) (λ c. rw (← c .before .before .is-plain .ensures, c .before .if1 .taken) (c .plain-clears .ensures))
+    (λ c κs. search needs) (λ c κs. search needs) returns-2 (λ c κs. search needs) returns-3)

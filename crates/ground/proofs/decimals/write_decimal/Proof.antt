@@ -6,16 +6,10 @@ use Rattle.ground.proofs.DecimalLaws.{decimal-more, more-length}
 use Rattle.ground.proofs.decimals.write_decimal.Statement.{statement}
 use Rattle.ground.proofs.decimals.write_decimal.Tie as tie
 
-write-small-requires-2 : tie.Need-write-small-requires-2
-write-small-requires-2 c κs =
-    let start = c .before .before .before in
-    (search needs, omega (arith, start .pre, more-length (start .args .n) (omega arith)))
-
 write-byte-requires : tie.Need-write-byte-requires
 write-byte-requires c κs =
-    let sent = c .before .before .before in
-    let start = sent .before .before .before .before in
-    omega (arith, start .pre, more-length (start .args .n) (omega arith), sent .write-small2 .ensures)
+    let start = c .before .before .before .before .before .before .before in
+    omega (arith, more-length (start .args .n) (omega arith))
 
 returns-2 : tie.Need-returns-2
 returns-2 c =
@@ -25,6 +19,7 @@ returns-2 c =
 
 pub write-decimal-spec : {M : Type 1} → statement M
 write-decimal-spec =
-    tie.close
-    (tie.spec (λ c κs. search needs) (λ c. search needs) (λ c. search needs) write-small-requires-2 (λ c. search needs) write-byte-requires
-    (λ c. search needs) returns-2)
+    tie.close (tie.spec
+    (λ c κs. search needs) (λ c. search needs) (λ c. search needs)
+    (λ c κs. omega (arith, more-length (c .before .before .before .args .n) (omega arith)))
+    (λ c. search needs) write-byte-requires (λ c. search needs) returns-2)

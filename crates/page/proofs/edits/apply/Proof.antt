@@ -4,8 +4,9 @@ use borrow.Author.Needs.{needs}
 use Rattle.page.proofs.edits.apply.Statement.{statement}
 use Rattle.page.proofs.edits.apply.Tie as tie
 
-returns : tie.Need-returns
-returns c = edited-applied (c .before .before .before .pre) (c .enum-told .given .1) (keep-edited _)
-
 pub apply-spec : {M : Type 1} → statement M
-apply-spec = tie.close (tie.spec (λ c. search needs) (λ c κs. search needs) returns (λ c. search needs) (λ c. search needs))
+apply-spec =
+    tie.close (tie.spec
+    (λ c. search needs) (λ c κs. search needs)
+    (λ c. search (edited-applied, keep-edited))
+    (λ c. search needs) (λ c. search needs))

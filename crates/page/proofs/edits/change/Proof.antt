@@ -26,17 +26,10 @@ change-spec =
     (λ c. search needs) (λ c κs. let s = c .before .before in let F = fits (s .before .before .before .pre) (s .edit6 .given .1) in omega arith)
     (λ c. search needs) (λ c κs. let s = c .before .before in let F = fits (s .before .before .before .pre) (s .edit7 .given .1) in omega arith)
     (λ c. edited-applied (c .before .before .before .pre) (c .enum-told .given .1) (keep-edited _))
-    (λ c. search needs) (λ c. let d = c .before .before in let k = d .before .before .before in
-    edited-applied (k .before .before .before .pre) (k .edit .given .1) (d .put .ensures))
-    (λ c. search needs) (λ c. let d = c .before .before in let k = d .before .before .before in
-    edited-applied (k .before .before .before .pre) (k .edit2 .given .1) (d .insert-cells .ensures))
-    (λ c. search needs) (λ c. let d = c .before .before in let k = d .before .before .before in
-    edited-applied (k .before .before .before .pre) (k .edit3 .given .1) (d .delete-cells .ensures))
-    (λ c. search needs) (λ c. let d = c .before .before in let k = d .before .before .before in
-    edited-applied (k .before .before .before .pre) (k .edit4 .given .1) (d .scroll-up .ensures))
-    (λ c. search needs) (λ c. let d = c .before .before in let k = d .before .before .before in
-    edited-applied (k .before .before .before .pre) (k .edit5 .given .1) (d .scroll-down .ensures))
-    (λ c. search needs) (λ c. let d = c .before .before in let k = d .before .before .before in
-    edited-applied (k .before .before .before .pre) (k .edit6 .given .1) (d .fill .ensures))
-    (λ c. search needs) (λ c. let d = c .before .before in let k = d .before .before .before in
-    edited-applied (k .before .before .before .pre) (k .edit7 .given .1) (d .selective-erase .ensures)))
+    (λ c. search needs) (λ c. search edited-applied)
+    (λ c. search needs) (λ c. search edited-applied)
+    (λ c. search needs) (λ c. search edited-applied)
+    (λ c. search needs) (λ c. search edited-applied)
+    (λ c. search needs) (λ c. search edited-applied)
+    (λ c. search needs) (λ c. search edited-applied)
+    (λ c. search needs) (λ c. search edited-applied))

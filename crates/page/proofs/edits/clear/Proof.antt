@@ -6,8 +6,8 @@ use borrow.Author.Needs.{needs}
 use Rattle.page.proofs.edits.clear.Statement.{statement}
 use Rattle.page.proofs.edits.clear.Tie as tie
 
-returns : tie.Need-returns
-returns c = c .before .before .fill-words .ensures .page ∙ paste-whole (c .before .before .before .before .before .args .page .now) blank
-
 pub clear-spec : {M : Type 1} → statement M
-clear-spec = tie.close (tie.spec (λ c κs. search needs) (λ c. search needs) returns)
+clear-spec =
+    tie.close (tie.spec
+    (λ c κs. search needs) (λ c. search needs)
+    (λ c. c .before .before .fill-words .ensures .page ∙ paste-whole (c .before .before .before .before .before .args .page .now) blank))

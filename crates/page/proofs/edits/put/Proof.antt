@@ -4,13 +4,8 @@ use borrow.Author.Needs.{needs}
 use Rattle.page.proofs.edits.put.Statement.{statement}
 use Rattle.page.proofs.edits.put.Tie as tie
 
-returns : tie.Need-returns
-returns c =
-    let s = c .before .before .before .before in
-    put-edited (s .args .word) (s .pre) (c .before .before .place .ensures) (c .row-bit .ensures)
-
 pub put-spec : {M : Type 1} → statement M
 put-spec =
-    tie.close
-    (tie.spec (λ c κs. search needs) (λ c. search needs) (λ c. search needs) (λ c. search needs) (λ c. search needs) (λ c κs. search needs)
-    (λ c. search needs) returns)
+    tie.close (tie.spec
+    (λ c κs. search needs) (λ c. search needs) (λ c. search needs) (λ c. search needs) (λ c. search needs) (λ c κs. search needs) (λ c. search needs)
+    (λ c. search put-edited))

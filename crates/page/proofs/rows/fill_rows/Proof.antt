@@ -18,9 +18,6 @@ Inv-loop page₀ top end left right word bits₀ k₀ page bits k = Upward top e
 abbrev μ-loop : tie.MeasureT-loop
 μ-loop page₀ top end left right word bits₀ k₀ page bits k = end - k
 
-loop-holds : tie.Need-loop-holds Inv-loop μ-loop
-loop-holds c = up-none _ _ _ _ (omega arith)
-
 loop-again : tie.Need-loop-again Inv-loop μ-loop
 loop-again c =
     let m = c .before .before in
@@ -32,10 +29,10 @@ loop-again c =
     (λ old. filled-row (row (l .loop .page) (l .loop .k)) (a .left) (a .right) w (omega arith)
     ∙ ap (λ (x : List ℕ). overlaid x (a .left) (a .right) (replicate 80 w)) old)
 
-returns : tie.Need-returns Inv-loop μ-loop
-returns c = up-all (c .before .loop .inv) (omega arith)
-
 pub fill-rows-spec : {M : Type 1} → statement M
 fill-rows-spec =
-    tie.close
-    (tie.spec Inv-loop μ-loop loop-holds (λ c κs. search needs) (λ c. search needs) (λ c. search needs) loop-again (λ c. search needs) returns)
+    tie.close (tie.spec
+    Inv-loop μ-loop
+    (λ c. search (up-none, arith))
+    (λ c κs. search needs) (λ c. search needs) (λ c. search needs) loop-again (λ c. search needs)
+    (λ c. search (up-all, arith)))

@@ -7,17 +7,16 @@ use borrow.Author.Needs.{needs}
 use Rattle.page.proofs.rows.lower_row.Statement.{statement}
 use Rattle.page.proofs.rows.lower_row.Tie as tie
 
-copy-columns-requires : tie.Need-copy-columns-requires
-copy-columns-requires c κs = (omega arith, omega arith, inr (omega arith))
-
 returns : tie.Need-returns
 returns c =
     let d = c .before .before .before in
     let s = d .before .before .before .before in
-    redone-move {from = d .before .before .place .result - (80 * s .args .gap + 80)} (s .args .to - (s .args .gap + 1)) (s .pre .0) (omega arith) (d .before .before .place .ensures) (omega arith) (d .copy-columns .ensures) (c .row-bit .ensures)
+    redone-move {from = d .before .before .place .result - (80 * s .args .gap + 80)} (s .args .to - (s .args .gap + 1)) (s .pre .0) (omega arith)
+    (d .before .before .place .ensures) (omega arith) (d .copy-columns .ensures) (c .row-bit .ensures)
 
 pub lower-row-spec : {M : Type 1} → statement M
 lower-row-spec =
-    tie.close
-    (tie.spec (λ c. search needs) (λ c. search needs) (λ c κs. search needs) (λ c. search needs) (λ c. search needs) (λ c. search needs)
-    copy-columns-requires (λ c κs. search needs) (λ c. search needs) returns)
+    tie.close (tie.spec
+    (λ c. search needs) (λ c. search needs) (λ c κs. search needs) (λ c. search needs) (λ c. search needs) (λ c. search needs)
+    (λ c κs. (omega arith, omega arith, inr (omega arith)))
+    (λ c κs. search needs) (λ c. search needs) returns)

@@ -1,4 +1,5 @@
--- The rows from `k` to `end` are done. The row that the next one takes is not done yet, since the loop goes from the last row to the first and takes from above. Rows that go down by none are what they were.
+-- The rows from `k` to `end` are done. The row that the next one takes is not done yet, since the loop goes from the last row to the first and takes from
+-- above. Rows that go down by none are what they were.
 use borrow.Author.Needs.{needs}
 use mathlib.Core.Path.{_≡_, refl, ap, ap₂, _∙_}
 use mathlib.Core.List.{List}
@@ -14,13 +15,11 @@ use Rattle.page.proofs.rows.lower_rows.Statement.{statement}
 use Rattle.page.proofs.rows.lower_rows.Tie as tie
 
 abbrev Inv-loop : tie.InvT-loop
-Inv-loop page₀ top end left right count bits₀ k₀ page bits k = (top ≤ k) × (k ≤ end) × Redone page₀ page (inRange k end) (λ j. overlaid (row page₀ j) left right (row page₀ (j - count))) bits
+Inv-loop page₀ top end left right count bits₀ k₀ page bits k = (top ≤ k) × (k ≤ end) × Redone page₀ page (inRange k end)
+    (λ j. overlaid (row page₀ j) left right (row page₀ (j - count))) bits
 
 abbrev μ-loop : tie.MeasureT-loop
 μ-loop page₀ top end left right count bits₀ k₀ page bits k = k
-
-loop-holds : tie.Need-loop-holds Inv-loop μ-loop
-loop-holds c = (omega arith, omega arith, block-none _ _ _)
 
 loop-again : tie.Need-loop-again Inv-loop μ-loop
 loop-again c =
@@ -34,12 +33,10 @@ loop-again c =
       omega arith,
       omega arith,
       block-down {f = λ j. overlaid (row (l .loop .page) j) (a .left) (a .right) (row (l .loop .page) up)} R (m .lower-row .ensures)
-          (ap₂ (λ (x y : List ℕ). overlaid x (a .left) (a .right) y) (block-old R k (inl (omega arith))) (block-old R up (inl (omega arith)) ∙ ap (row (a .page .now)) from))
+          (ap₂ (λ (x y : List ℕ). overlaid x (a .left) (a .right) y) (block-old R k (inl (omega arith)))
+          (block-old R up (inl (omega arith)) ∙ ap (row (a .page .now)) from))
           (omega arith) (l .loop .inv .1),
     )
-
-returns : tie.Need-returns Inv-loop μ-loop
-returns c = block-all (c .before .loop .inv .2) (omega arith) refl
 
 returns-2 : tie.Need-returns-2 Inv-loop μ-loop
 returns-2 c =
@@ -50,6 +47,9 @@ returns-2 c =
 
 pub lower-rows-spec : {M : Type 1} → statement M
 lower-rows-spec =
-    tie.close
-    (tie.spec Inv-loop μ-loop loop-holds (λ c. search needs) (λ c. search needs) (λ c κs. search needs) (λ c. search needs) loop-again
-    (λ c. search needs) returns returns-2)
+    tie.close (tie.spec
+    Inv-loop μ-loop
+    (λ c. search (block-none, arith))
+    (λ c. search needs) (λ c. search needs) (λ c κs. search needs) (λ c. search needs) loop-again (λ c. search needs)
+    (λ c. block-all (c .before .loop .inv .2) (omega arith) refl)
+    returns-2)

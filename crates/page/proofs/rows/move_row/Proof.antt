@@ -17,7 +17,8 @@ returns : tie.Need-returns
 returns c =
     let d = c .before .before .before in
     let s = d .before .before .before .before .before in
-    redone-move (s .args .from) (s .pre .0) (s .pre .1) (d .before .before .place .ensures) (d .before .place2 .ensures) (d .copy-columns .ensures) (c .row-bit .ensures)
+    redone-move (s .args .from) (s .pre .0) (s .pre .1) (d .before .before .place .ensures) (d .before .place2 .ensures) (d .copy-columns .ensures)
+    (c .row-bit .ensures)
 
 pub move-row-spec : {M : Type 1} → statement M
 move-row-spec =

@@ -12,13 +12,11 @@ use Rattle.page.proofs.rows.raise_rows.Statement.{statement}
 use Rattle.page.proofs.rows.raise_rows.Tie as tie
 
 abbrev Inv-loop : tie.InvT-loop
-Inv-loop page₀ top end left right count bits₀ k₀ page bits k = Upward top end page₀ (λ j. overlaid (row page₀ j) left right (row page₀ (j + count))) page bits k
+Inv-loop page₀ top end left right count bits₀ k₀ page bits k = Upward top end page₀ (λ j. overlaid (row page₀ j) left right (row page₀ (j + count))) page
+    bits k
 
 abbrev μ-loop : tie.MeasureT-loop
 μ-loop page₀ top end left right count bits₀ k₀ page bits k = end - k
-
-loop-holds : tie.Need-loop-holds Inv-loop μ-loop
-loop-holds c = up-none _ _ _ _ (omega arith)
 
 loop-again : tie.Need-loop-again Inv-loop μ-loop
 loop-again c =
@@ -30,11 +28,10 @@ loop-again c =
     {f = λ j. overlaid (row (l .loop .page) j) (a .left) (a .right) (row (l .loop .page) (k + a .count))} (omega arith) (m .move-row .ensures)
     (λ old. ap₂ (λ (x y : List ℕ). overlaid x (a .left) (a .right) y) old (block-old (l .loop .inv .2) (k + a .count) (inr (omega arith))))
 
-returns : tie.Need-returns Inv-loop μ-loop
-returns c = up-all (c .before .loop .inv) (omega arith)
-
 pub raise-rows-spec : {M : Type 1} → statement M
 raise-rows-spec =
-    tie.close
-    (tie.spec Inv-loop μ-loop loop-holds (λ c. search needs) (λ c κs. search needs) (λ c. search needs) (λ c. search needs) loop-again
-    (λ c. search needs) returns)
+    tie.close (tie.spec
+    Inv-loop μ-loop
+    (λ c. search (up-none, arith))
+    (λ c. search needs) (λ c κs. search needs) (λ c. search needs) (λ c. search needs) loop-again (λ c. search needs)
+    (λ c. search (up-all, arith)))

@@ -8,7 +8,8 @@ returns : tie.Need-returns
 returns c =
     let a = c .before .before in
     let s = a .before in
-    ask-leaves (s .before .args .terminal) _ (a .ask .result) _ _ (s .state-of .ensures) (a .ask .ensures) (c .before .number .ensures) (c .record-left .ensures)
+    ask-leaves (s .before .args .terminal) _ (a .ask .result) _ _ (s .state-of .ensures) (a .ask .ensures)
+    (c .before .number .ensures) (c .record-left .ensures)
 
 pub ask-spec : {M : Type 1} → statement M
 ask-spec = tie.close (tie.spec (λ c κs. search needs) (λ c κs. search needs) (λ c κs. search needs) (λ c κs. search needs) returns)

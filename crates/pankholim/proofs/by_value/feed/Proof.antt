@@ -9,7 +9,8 @@ returns c =
     let f = c .before .before .before .before .before .before in
     let s = f .before .before .before in
     let a = s .before .before .before .before .args in
-    feed-leaves (a .terminal) _ (a .page .now) (a .input .now) (a .reply .now) (f .feed .result) _ _ _ _ (s .state-of .ensures) (f .feed .ensures) (c .before .number .ensures) (c .record-left .ensures)
+    feed-leaves (a .terminal) _ (a .page .now) (a .input .now) (a .reply .now) (f .feed .result) _ _ _ _ (s .state-of .ensures)
+    (f .feed .ensures) (c .before .number .ensures) (c .record-left .ensures)
 
 pub feed-spec : {M : Type 1} → statement M
 feed-spec =

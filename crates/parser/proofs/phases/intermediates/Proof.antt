@@ -3,14 +3,10 @@ use borrow.Author.Needs.{needs}
 use Rattle.parser.proofs.phases.intermediates.Statement.{statement}
 use Rattle.parser.proofs.phases.intermediates.Tie as tie
 
-returns : tie.Need-returns
-returns c = rw (← c .before .phase-number .ensures, c .if1 .taken)
-
-returns-2 : tie.Need-returns-2
-returns-2 c = rw (← c .before .before .phase-number .ensures, c .before .if1 .left, c .if2 .taken)
-
-returns-3 : tie.Need-returns-3
-returns-3 c = rw (← c .before .before .phase-number .ensures, c .before .if1 .left, c .if2 .left)
-
 pub intermediates-spec : {M : Type 1} → statement M
-intermediates-spec = tie.close (tie.spec (λ c κs. search needs) returns returns-2 returns-3)
+intermediates-spec =
+    tie.close (tie.spec
+    (λ c κs. search needs)
+    (λ c. rw (← c .before .phase-number .ensures, c .if1 .taken))
+    (λ c. rw (← c .before .before .phase-number .ensures, c .before .if1 .left, c .if2 .taken))
+    (λ c. rw (← c .before .before .phase-number .ensures, c .before .if1 .left, c .if2 .left)))

@@ -3,11 +3,5 @@ use borrow.Author.Tests.{lt-ltb, le-ltb}
 use Rattle.parser.proofs.rules.below.Statement.{statement}
 use Rattle.parser.proofs.rules.below.Tie as tie
 
-returns : tie.Need-returns
-returns c = rw (lt-ltb _ _ (c .if1 .taken))
-
-returns-2 : tie.Need-returns-2
-returns-2 c = rw (le-ltb _ _ (c .if1 .left))
-
 pub below-spec : {M : Type 1} → statement M
-below-spec = tie.close (tie.spec returns returns-2)
+below-spec = tie.close (tie.spec (λ c. search lt-ltb) (λ c. search le-ltb))

@@ -4,11 +4,8 @@ use borrow.Author.Needs.{needs}
 use Rattle.parser.proofs.rules.intermediate_rule.Statement.{statement}
 use Rattle.parser.proofs.rules.intermediate_rule.Tie as tie
 
-returns : tie.Need-returns
-returns c = rw (lt-ltb _ _ (c .if1 .taken))
-
-returns-2 : tie.Need-returns-2
-returns-2 c = rw (le-ltb _ _ (c .before .before .before .if1 .left), ← c .before .before .to .ensures, ← c .before .to2 .ensures) (c .below .ensures)
-
 pub intermediate-rule-spec : {M : Type 1} → statement M
-intermediate-rule-spec = tie.close (tie.spec returns (λ c κs. search needs) (λ c κs. search needs) (λ c κs. search needs) returns-2)
+intermediate-rule-spec =
+    tie.close (tie.spec
+    (λ c. search lt-ltb) (λ c κs. search needs) (λ c κs. search needs) (λ c κs. search needs)
+    (λ c. rw (← c .before .before .to .ensures, ← c .before .to2 .ensures) (search le-ltb)))

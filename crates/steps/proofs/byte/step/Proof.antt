@@ -5,9 +5,9 @@ use native.Mathlib.Omega.{arith}
 use borrow.Author.Needs.{needs}
 use Rattle.parser.specs.declared.parser.Decoded.{Decoded}
 use Rattle.parser.specs.Parser.{decode}
-use Rattle.vt.specs.declared.core.Core.{Core}
-use Rattle.vt.specs.declared.core.Decision.{Decision}
-use Rattle.vt.specs.Effects.{withParser}
+use Rattle.core.specs.declared.Core.{Core}
+use Rattle.core.specs.declared.Decision.{Decision}
+use Rattle.core.specs.Effects.{withParser}
 use Rattle.dispatch.specs.Decide.{executed, decided}
 use Rattle.wholeness.proofs.Sound.{decided-sound}
 use Rattle.steps.proofs.ByteLaws.{acted-is}
@@ -19,22 +19,27 @@ decides : (c : Core) (b : ℕ) (d : Decoded) (x : Decision) → d ≡ decode (c 
 unfolding decided
 decides c b d x ed ex = ex ∙ ap (λ (y : Decoded). executed (withParser c (y .parser)) (y .action)) ed
 
+-- what `execute` decided
+is-decided : (c : tie.After-execute) → let a = c .before .before .before .args in c .execute .result ≡ decided (a .core) (a .byte)
+is-decided c =
+    let start = c .before .before .before in
+    decides (start .args .core) (start .args .byte) (start .args .decoded) (c .execute .result) (start .pre .1) (c .execute .ensures)
+
 apply-requires : tie.Need-apply-requires
 apply-requires c κs =
     let d = c .before .before in
     let start = d .before .before .before in
-    let snd = decided-sound (start .args .core) (start .args .byte) (start .pre .0 .whole) in
-    let is = decides (start .args .core) (start .args .byte) (start .args .decoded) (d .execute .result) (start .pre .1) (d .execute .ensures) in
-    record { long = start .pre .0 .size; few = omega (arith, start .pre .0 .whole .parts .bounds .count .high); within = rw is (snd .first) }
+    let sound = decided-sound (start .args .core) (start .args .byte) (start .pre .0 .whole) in
+    record { long = start .pre .0 .size; few = omega (arith, start .pre .0 .whole .parts .bounds .count .high); within = rw (is-decided d) (sound .first) }
 
 apply-requires-2 : tie.Need-apply-requires-2
 apply-requires-2 c κs =
     let a = c .before .before .before in
     let d = a .before .before .before in
     let start = d .before .before .before in
-    let snd = decided-sound (start .args .core) (start .args .byte) (start .pre .0 .whole) in
-    let is = decides (start .args .core) (start .args .byte) (start .args .decoded) (d .execute .result) (start .pre .1) (d .execute .ensures) in
-    record { long = a .apply .kept .1 .0 ∙ start .pre .0 .size; few = omega (arith, start .pre .0 .whole .parts .bounds .count .high); within = rw is (snd .second) }
+    let sound = decided-sound (start .args .core) (start .args .byte) (start .pre .0 .whole) in
+    let long = a .apply .kept .1 .0 ∙ start .pre .0 .size in
+    record { long = long; few = omega (arith, start .pre .0 .whole .parts .bounds .count .high); within = rw (is-decided d) (sound .second) }
 
 returns : tie.Need-returns
 returns c =
@@ -42,9 +47,8 @@ returns c =
     let a = b .before .before .before .before in
     let d = a .before .before .before in
     let start = d .before .before .before in
-    let is = decides (start .args .core) (start .args .byte) (start .args .decoded) (d .execute .result) (start .pre .1) (d .execute .ensures) in
     acted-is (start .args .core) (start .args .byte) (start .args .page .now) (a .apply .last .1 .0) (b .apply2 .last .1 .0) (d .execute .result)
-    (a .apply .result) (b .apply2 .result) (start .pre .0) is
+    (a .apply .result) (b .apply2 .result) (start .pre .0) (is-decided d)
     (a .apply .ensures .page) (a .apply .ensures .marked) (b .apply2 .ensures .page) (b .apply2 .ensures .marked)
 
 pub step-spec : {M : Type 1} → statement M

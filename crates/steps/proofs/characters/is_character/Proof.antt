@@ -3,8 +3,5 @@ use borrow.Author.Needs.{needs}
 use Rattle.steps.proofs.characters.is_character.Statement.{statement}
 use Rattle.steps.proofs.characters.is_character.Tie as tie
 
-returns : tie.Need-returns
-returns c = rw (c .before .between .ensures, c .between2 .ensures)
-
 pub is-character-spec : {M : Type 1} → statement M
-is-character-spec = tie.close (tie.spec (λ c κs. search needs) (λ c κs. search needs) returns)
+is-character-spec = tie.close (tie.spec (λ c κs. search needs) (λ c κs. search needs) (λ c. cc))

@@ -4,8 +4,5 @@ use Rattle.steps.proofs.CharacterLaws.{shifted}
 use Rattle.steps.proofs.characters.is_unshifted.Statement.{statement}
 use Rattle.steps.proofs.characters.is_unshifted.Tie as tie
 
-returns-2 : tie.Need-returns-2
-returns-2 c = shifted (c .before .args .shift) (c .match .keys2)
-
 pub is-unshifted-spec : {M : Type 1} → statement M
-is-unshifted-spec = tie.close (tie.spec (λ c. search needs) (λ c. search needs) returns-2)
+is-unshifted-spec = tie.close (tie.spec (λ c. search needs) (λ c. search needs) (λ c. shifted (c .before .args .shift) (c .match .keys2)))

@@ -1,30 +1,37 @@
 -- The scroll stays on the page, and the edit and the cursor are the definition's.
-use mathlib.Core.Path.{_≡_, sym, ap, ap₂, subst, _∙_}
+use mathlib.Core.Path.{_≡_, ap, ap₂, _∙_}
 use mathlib.Core.Bool.{cond}
 use native.Mathlib.Omega.{arith}
 use borrow.Author.Needs.{needs}
-use Rattle.page.specs.declared.Edit.{Edit}
-use Rattle.page.specs.Edits.{Within}
-use Rattle.page.specs.Writes.{Applied}
 use Rattle.device.specs.declared.cursor.Cursor.{Cursor}
 use Rattle.device.specs.Cursor.{toColumn, index}
-use Rattle.vt.specs.declared.core.Core.{Core}
-use Rattle.vt.specs.Effects.{withCursor}
-use Rattle.vt.specs.declared.geometry.Stops.{Stops}
-use Rattle.vt.specs.Geometry.{stopsOf}
+use Rattle.core.specs.declared.Core.{Core}
+use Rattle.core.specs.Effects.{withCursor}
+use Rattle.core.specs.declared.geometry.Stops.{Stops}
+use Rattle.core.specs.Geometry.{stopsOf}
 use Rattle.vt.specs.Printing.{indexEdit}
 use Rattle.steps.specs.Spans.{lineStart}
 use Rattle.steps.proofs.CharacterLaws.{line-within, line-moves, start-row}
 use Rattle.steps.proofs.characters.line_feed.Statement.{statement}
 use Rattle.steps.proofs.characters.line_feed.Tie as tie
 
--- the stops are the core's, and so are the place that the line feed starts from and its edit
-module _ (core : Core) {g : Stops} (at-stops : g ≡ stopsOf core) where
-  starts : {u : Cursor} → u ≡ cond (core .modes .newline) (toColumn (core .cursor) (g .left)) (core .cursor) → u ≡ lineStart core
-  starts e = e ∙ ap (λ (x : Stops). cond (core .modes .newline) (toColumn (core .cursor) (x .left)) (core .cursor)) at-stops
+-- the core on whose page the line feed is made, with its cursor
+abbrev coreOf : tie.Start → Core
+coreOf start = withCursor (start .args .core) (start .args .cursor)
 
-  scrolls : {u : Cursor} {x : Edit} → u ≡ lineStart core → x ≡ indexEdit (core .margins) g u → x ≡ indexEdit (core .margins) (stopsOf core) (lineStart core)
-  scrolls e f = f ∙ ap₂ (indexEdit (core .margins)) at-stops e
+-- the stops are the core's, and so is the place that the line feed starts from
+starts : (c : tie.After-line-start) → c .line-start .result ≡ lineStart (coreOf (c .before .before .before .before))
+starts c =
+    let core = coreOf (c .before .before .before .before) in
+    c .line-start .ensures
+    ∙ ap (λ (x : Stops). cond (core .modes .newline) (toColumn (core .cursor) (x .left)) (core .cursor)) (c .before .stops-of .ensures)
+
+-- and its edit
+scrolls : (c : tie.After-index-edit)
+    → let core = coreOf (c .before .before .before .before .before) in c .index-edit .result ≡ indexEdit (core .margins) (stopsOf core) (lineStart core)
+scrolls c =
+    let first = c .before in
+    c .index-edit .ensures ∙ ap₂ (indexEdit (coreOf (first .before .before .before .before) .margins)) (first .before .stops-of .ensures) (starts first)
 
 index-edit-requires : tie.Need-index-edit-requires
 index-edit-requires c κs =
@@ -35,18 +42,12 @@ index-edit-requires c κs =
 apply-requires : tie.Need-apply-requires
 apply-requires c κs =
     let edit = c .before in
-    let first = edit .before in
-    let stops = first .before in
-    let start = stops .before .before .before in
-    let core : Core = withCursor (start .args .core) (start .args .cursor) in
+    let start = edit .before .before .before .before .before in
     let D = start .pre .0 in
-    let from = starts core (stops .stops-of .ensures) (first .line-start .ensures) in
-    let is = scrolls core (stops .stops-of .ensures) from (edit .index-edit .ensures) in
-    let h = D .paged .whole .parts .bounds .count .high in
     record {
       long = D .paged .size;
-      few = omega arith;
-      within = subst (Within (core .rows)) (sym is) (line-within core (start .args .byte) (D .paged .whole) (D .direct) (start .pre .1));
+      few = omega (arith, D .paged .whole .parts .bounds .count .high);
+      within = rw (scrolls edit) (line-within (coreOf start) (start .args .byte) (D .paged .whole) (D .direct) (start .pre .1));
     }
 
 index-requires : tie.Need-index-requires
@@ -64,15 +65,11 @@ returns c =
     let a = c .before .before .before in
     let edit = a .before .before in
     let first = edit .before in
-    let stops = first .before in
-    let start = stops .before .before .before in
-    let core : Core = withCursor (start .args .core) (start .args .cursor) in
-    let from = starts core (stops .stops-of .ensures) (first .line-start .ensures) in
-    let is = scrolls core (stops .stops-of .ensures) from (edit .index-edit .ensures) in
-    let A = subst (λ (x : Edit). Applied (core .rows) x (start .args .page .now) (a .apply .last .1 .0) (a .apply .result)) is (a .apply .ensures) in
-    rw (c .index .ensures ∙ ap (λ (u : Cursor). index u (core .margins .bottom) (core .rows)) from)
+    let start = first .before .before .before .before in
+    let core = coreOf start in
+    rw (c .index .ensures ∙ ap (λ (u : Cursor). index u (core .margins .bottom) (core .rows)) (starts first))
     (line-moves core (start .args .page .now) (a .apply .last .1 .0) (start .args .byte) (a .apply .result) (start .pre .0) (start .pre .1)
-    (a .apply .kept .1 .0) A)
+    (a .apply .kept .1 .0) (rw (scrolls edit) at (a .apply .ensures)))
 
 pub line-feed-spec : {M : Type 1} → statement M
 line-feed-spec =

@@ -1,7 +1,7 @@
 -- Where characters are not just put, nothing is done.
 use mathlib.Core.Path.{sym, _∙_}
 use borrow.Author.Needs.{needs}
-use Rattle.steps.proofs.SpanLaws.{spanned-none}
+use Rattle.steps.proofs.SpannedLaws.{spanned-none}
 use Rattle.steps.proofs.characters.print_characters.Statement.{statement}
 use Rattle.steps.proofs.characters.print_characters.Tie as tie
 

@@ -3,8 +3,5 @@ use borrow.Author.Needs.{needs}
 use Rattle.steps.proofs.characters.prints_directly.Statement.{statement}
 use Rattle.steps.proofs.characters.prints_directly.Tie as tie
 
-returns : tie.Need-returns
-returns c = rw (c .before .before .is-ground .ensures, c .before .is-unshifted .ensures)
-
 pub prints-directly-spec : {M : Type 1} → statement M
-prints-directly-spec = tie.close (tie.spec (λ c κs. search needs) (λ c κs. search needs) returns)
+prints-directly-spec = tie.close (tie.spec (λ c κs. search needs) (λ c κs. search needs) (λ c. cc))

@@ -1,6 +1,6 @@
 -- The cell at the cursor is on the page, and the edit is the definition's.
 use borrow.Author.Needs.{needs}
-use Rattle.vt.specs.Effects.{withCursor}
+use Rattle.core.specs.Effects.{withCursor}
 use Rattle.steps.proofs.CharacterLaws.{put-moves}
 use Rattle.steps.proofs.characters.put_character.Statement.{statement}
 use Rattle.steps.proofs.characters.put_character.Tie as tie
@@ -18,4 +18,5 @@ returns c =
 pub put-character-spec : {M : Type 1} → statement M
 put-character-spec =
     tie.close
-    (tie.spec (λ c κs. search needs) (λ c. search needs) (λ c. search needs) (λ c κs. search needs) (λ c κs. search needs) (λ c κs. search needs) (λ c. search needs) returns)
+    (tie.spec (λ c κs. search needs) (λ c. search needs) (λ c. search needs) (λ c κs. search needs) (λ c κs. search needs)
+    (λ c κs. search needs) (λ c. search needs) returns)

@@ -1,21 +1,21 @@
 -- Each return is the definition's case, by the tests that led there.
 use mathlib.Core.Path.{sym, _∙_}
-use borrow.Author.Tests.{not-true, not-false}
-use Rattle.terminal.proofs.CallLaws.{state-facts, fed-broken, fed-size, fed-bytes}
+use borrow.Author.Tests.{ne-eqb, not-true, not-false}
+use Rattle.terminal.specs.Feed.{fed}
+use Rattle.terminal.proofs.CallLaws.{state-facts, fed-bytes}
 use borrow.Author.Needs.{needs}
 use Rattle.terminal.proofs.calls.feed.Statement.{statement}
 use Rattle.terminal.proofs.calls.feed.Tie as tie
 
 returns : tie.Need-returns
-returns c =
-    let a = c .before .before .before .before .before .args in
-    rw (fed-broken (a .state) (a .page .now) (a .input .now) (a .reply .now) (sym (c .before .is-whole .ensures) ∙ not-true _ (c .if1 .taken)))
+unfolding fed
+returns c = rw (sym (c .before .is-whole .ensures) ∙ not-true _ (c .if1 .taken))
 
 returns-2 : tie.Need-returns-2
+unfolding fed
 returns-2 c =
-    let w = c .before .before .before in
-    let a = w .before .before .before .before .args in
-    rw (fed-size (a .state) (a .page .now) (a .input .now) (a .reply .now) (sym (w .is-whole .ensures) ∙ not-false _ (c .before .before .if1 .left)) (c .if2 .taken))
+    let e1 = c .before .before in
+    rw (sym (e1 .before .is-whole .ensures) ∙ not-false _ (e1 .if1 .left), ne-eqb _ _ (c .if2 .taken))
 
 feed-bytes-requires : tie.Need-feed-bytes-requires
 feed-bytes-requires c κs =

@@ -1,8 +1,9 @@
 -- Each return is the definition's case, by the tests that led there; on the page, the cell's place is inside the slice.
-use mathlib.Core.Path.{sym, _∙_}
+use mathlib.Core.Path.{_≡_, sym, _∙_}
+use mathlib.Core.Bool.{true, false}
 use native.Mathlib.Omega.{arith}
 use borrow.Author.Tests.{eq-eqb, ne-eqb, not-true, not-false}
-use Rattle.terminal.specs.Read.{cellRead}
+use Rattle.terminal.specs.Read.{onPage, cellRead}
 use Rattle.terminal.proofs.CallLaws.{on-page}
 use borrow.Author.Needs.{needs}
 use Rattle.terminal.proofs.calls.read.Statement.{statement}
@@ -18,58 +19,32 @@ returns-2 c =
     let e1 = c .before .before .before in
     rw (sym (e1 .before .is-whole .ensures) ∙ not-false _ (e1 .if1 .left), ne-eqb _ _ (c .if2 .taken))
 
-sub-at : tie.Need-sub-at
-sub-at c =
-    let a = c .before .before .before .before .before .before .before .args in
-    let o = on-page (a .state .core .rows) (a .row) (a .column) (c .if3 .taken) in
-    omega (arith, o)
-
-mul-at : tie.Need-mul-at
-mul-at c =
-    let a = c .before .before .before .before .before .before .before .args in
-    let o = on-page (a .state .core .rows) (a .row) (a .column) (c .if3 .taken) in
-    omega (arith, o)
-
-sub-at-2 : tie.Need-sub-at-2
-sub-at-2 c =
-    let a = c .before .before .before .before .before .before .before .args in
-    let o = on-page (a .state .core .rows) (a .row) (a .column) (c .if3 .taken) in
-    omega (arith, o)
-
-add-at : tie.Need-add-at
-add-at c =
-    let a = c .before .before .before .before .before .before .before .args in
-    let o = on-page (a .state .core .rows) (a .row) (a .column) (c .if3 .taken) in
-    omega (arith, o)
-
-mul-t20 : tie.Need-mul-t20
-mul-t20 c =
-    let a = c .before .before .before .before .before .before .before .args in
-    let o = on-page (a .state .core .rows) (a .row) (a .column) (c .if3 .taken) in
-    omega (arith, o)
-
-shared-slice-read-t25 : tie.Need-shared-slice-read-t25
-shared-slice-read-t25 c =
-    let a = c .before .before .before .before .before .before .before .before .args in
-    let o = on-page (a .state .core .rows) (a .row) (a .column) (c .before .if3 .taken) in
-    omega (arith, o, c .before .before .if2 .left)
-
 returns-3 : tie.Need-returns-3
 unfolding cellRead
 returns-3 c =
     let e2 = c .before .before in
     let e1 = e2 .before .before .before in
-    rw (sym (e1 .before .is-whole .ensures) ∙ not-false _ (e1 .if1 .left), eq-eqb _ _ (e2 .if2 .left), c .before .if3 .taken)
+    let a = e1 .before .before .before .args in
+    let on : onPage (a .state .core .rows) (a .row) (a .column) ≡ true = c .before .if3 .taken in
+    rw (sym (e1 .before .is-whole .ensures) ∙ not-false _ (e1 .if1 .left), eq-eqb _ _ (e2 .if2 .left), on)
 
 returns-4 : tie.Need-returns-4
 unfolding cellRead
 returns-4 c =
-    let e2 = c .before in
-    let e1 = e2 .before .before .before in
-    rw (sym (e1 .before .is-whole .ensures) ∙ not-false _ (e1 .if1 .left), eq-eqb _ _ (e2 .if2 .left), c .if3 .left)
+    let e1 = c .before .before .before .before in
+    let a = e1 .before .before .before .args in
+    let off : onPage (a .state .core .rows) (a .row) (a .column) ≡ false = c .if3 .left in
+    rw (sym (e1 .before .is-whole .ensures) ∙ not-false _ (e1 .if1 .left), eq-eqb _ _ (c .before .if2 .left), off)
 
 pub read-spec : {M : Type 1} → statement M
 read-spec =
-    tie.close
-    (tie.spec (λ c κs. search needs) returns (λ c. search needs) (λ c. search needs) returns-2 sub-at mul-at sub-at-2 add-at mul-t20
-    shared-slice-read-t25 returns-3 returns-4)
+    tie.close (tie.spec
+    (λ c κs. search needs) returns (λ c. search needs) (λ c. search needs) returns-2
+    (λ c. let a = c .before .before .before .before .before .before .before .args in omega (arith, on-page (a .state) (a .row) (a .column) (c .if3 .taken)))
+    (λ c. let a = c .before .before .before .before .before .before .before .args in omega (arith, on-page (a .state) (a .row) (a .column) (c .if3 .taken)))
+    (λ c. let a = c .before .before .before .before .before .before .before .args in omega (arith, on-page (a .state) (a .row) (a .column) (c .if3 .taken)))
+    (λ c. let a = c .before .before .before .before .before .before .before .args in omega (arith, on-page (a .state) (a .row) (a .column) (c .if3 .taken)))
+    (λ c. let a = c .before .before .before .before .before .before .before .args in omega (arith, on-page (a .state) (a .row) (a .column) (c .if3 .taken)))
+    (λ c. let a = c .before .before .before .before .before .before .before .before .args in
+    omega (arith, on-page (a .state) (a .row) (a .column) (c .before .if3 .taken)))
+    returns-3 returns-4)

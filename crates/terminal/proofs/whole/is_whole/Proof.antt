@@ -1,4 +1,4 @@
--- The core's test is vt's; a set below 2 ^ R has no row above R.
+-- The core's test is crate core's; a set below 2 ^ R has no row above R.
 use mathlib.Core.Path.{sym, _∙_}
 use native.Mathlib.Nat.{one-mul}
 use native.Mathlib.Omega.{arith}

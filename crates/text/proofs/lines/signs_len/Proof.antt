@@ -1,6 +1,6 @@
 -- `text::lines::signs_len` meets its contract. The loop's invariant: `len` is the number of bytes of the first i signs, at most three each.
-use mathlib.Core.Path.{_≡_, refl, ap, _∙_}
-use mathlib.Core.List.{List, map}
+use mathlib.Core.Path.{_≡_, refl, ap}
+use mathlib.Core.List.{map}
 use Prim.Native.Nat.{ℕ, _-_, _≤_}
 use native.Mathlib.Omega.{arith}
 use lib.ListN.{length, take}
@@ -17,29 +17,16 @@ Inv-loop cells len₀ i₀ len i = (i ≤ length cells) × (len ≡ length (enco
 abbrev μ-loop : tie.MeasureT-loop
 μ-loop cells len₀ i₀ len i = length cells - i
 
-loop-holds : tie.Need-loop-holds Inv-loop μ-loop
+pub signs-len-spec : {M : Type 1} → statement M
 unfolding encoded
-loop-holds c = (omega arith, refl)
-
-add-len : tie.Need-add-len Inv-loop μ-loop
-add-len c =
-    let head = c .before .before .before .before in
-    omega (arith, signs-short (head .before .before .args .cells .now) (head .loop .i), utf8-short (c .before .sign .result))
-
-loop-again : tie.Need-loop-again Inv-loop μ-loop
-loop-again c =
-    let head = c .before .before .before .before in
+signs-len-spec =
+    tie.close (tie.spec
+    Inv-loop μ-loop (λ c. (omega arith, refl)) (λ c. search needs) (λ c. search needs) (λ c κs. search needs) (λ c κs. search needs)
+    (λ c. let head = c .before .before .before .before in
+    omega (arith, signs-short (head .before .before .args .cells .now) (head .loop .i), utf8-short (c .before .sign .result)))
+    (λ c. search needs) (λ c. search needs)
+    (λ c. let head = c .before .before .before .before in
     let more = encoded-more-length (head .before .before .args .cells .now) (head .loop .i) (omega arith) in
     let bytes = ap (λ (x : ℕ). length (utf8 x)) (c .before .sign .ensures) in
-    (omega arith, omega (arith, c .utf8-len .ensures))
-
-returns : tie.Need-returns Inv-loop μ-loop
-returns c =
-    let head = c .before in
-    head .loop .inv .1 ∙ ap (λ (l : List ℕ). length (encoded (map sign l))) (take-all (head .loop .i) (head .before .before .args .cells .now) (c .loop-test .left))
-
-pub signs-len-spec : {M : Type 1} → statement M
-signs-len-spec =
-    tie.close
-    (tie.spec Inv-loop μ-loop loop-holds (λ c. search needs) (λ c. search needs) (λ c κs. search needs) (λ c κs. search needs) add-len
-    (λ c. search needs) (λ c. search needs) loop-again returns)
+    (omega arith, omega (arith, c .utf8-len .ensures)))
+    (λ c. rw (take-all _ _ (c .loop-test .left)) at (c .before .loop .inv .1)))

@@ -19,33 +19,18 @@ Inv-loop cells out₀ at next₀ i₀ out next i = (i ≤ length cells) × Wrote
 abbrev μ-loop : tie.MeasureT-loop
 μ-loop cells out₀ at next₀ i₀ out next i = length cells - i
 
-loop-holds : tie.Need-loop-holds Inv-loop μ-loop
+pub write-signs-spec : {M : Type 1} → statement M
 unfolding encoded
-loop-holds c = (omega arith, wrote-none _ _)
-
-write-utf8-requires : tie.Need-write-utf8-requires Inv-loop μ-loop
-write-utf8-requires c κs =
-    let head = c .before .before .before .before in
+write-signs-spec =
+    tie.close (tie.spec
+    Inv-loop μ-loop (λ c. (omega arith, wrote-none _ _)) (λ c. search needs) (λ c. search needs) (λ c κs. search needs)
+    (λ c κs. let head = c .before .before .before .before in
     let cells = head .before .before .before .args .cells .now in
     let bytes = ap (λ (x : ℕ). length (utf8 x)) (c .sign .ensures) in
-    omega (arith, encoded-more-length cells (head .loop .i) (omega arith), encoded-part (head .loop .i + 1) cells)
-
-loop-again : tie.Need-loop-again Inv-loop μ-loop
-loop-again c =
-    let called = c .before .before in
+    omega (arith, encoded-more-length cells (head .loop .i) (omega arith), encoded-part (head .loop .i + 1) cells))
+    (λ c. search needs) (λ c. search needs)
+    (λ c. let called = c .before .before in
     let head = called .before .before .before .before .before in
-    let cells = head .before .before .before .args .cells .now in (
-      omega arith,
-      rw (encoded-more cells (head .loop .i) (omega arith), ← called .before .sign .ensures) (wrote-more (head .loop .inv .1) (called .write-utf8 .ensures)),
-    )
-
-returns : tie.Need-returns Inv-loop μ-loop
-returns c =
-    let head = c .before in
-    rw (take-all _ _ (c .loop-test .left)) at (head .loop .inv .1)
-
-pub write-signs-spec : {M : Type 1} → statement M
-write-signs-spec =
-    tie.close
-    (tie.spec Inv-loop μ-loop loop-holds (λ c. search needs) (λ c. search needs) (λ c κs. search needs) write-utf8-requires (λ c. search needs)
-    (λ c. search needs) loop-again (λ c. search needs) returns)
+    let more = encoded-more (head .before .before .before .args .cells .now) (head .loop .i) (omega arith) in
+    (omega arith, rw (more, ← called .before .sign .ensures) (wrote-more (head .loop .inv .1) (called .write-utf8 .ensures))))
+    (λ c. search needs) (λ c. rw (take-all _ _ (c .loop-test .left)) at (c .before .loop .inv .1)))

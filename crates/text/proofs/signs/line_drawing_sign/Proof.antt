@@ -4,8 +4,5 @@ use borrow.Author.Needs.{needs}
 use Rattle.text.proofs.signs.line_drawing_sign.Statement.{statement}
 use Rattle.text.proofs.signs.line_drawing_sign.Tie as tie
 
-returns : tie.Need-returns
-returns c = refl
-
 pub line-drawing-sign-spec : {M : Type 1} → statement M
-line-drawing-sign-spec = tie.close (tie.spec (λ c. search needs) (λ c. search needs) returns)
+line-drawing-sign-spec = tie.close (tie.spec (λ c. search needs) (λ c. search needs) (λ c. refl))

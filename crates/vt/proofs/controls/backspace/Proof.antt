@@ -3,8 +3,5 @@ use borrow.Author.Needs.{needs}
 use Rattle.vt.proofs.controls.backspace.Statement.{statement}
 use Rattle.vt.proofs.controls.backspace.Tie as tie
 
-returns : tie.Need-returns
-returns c = rw (c .unedited .ensures, c .before .left .ensures, c .before .before .left-stop .ensures)
-
 pub backspace-spec : {M : Type 1} → statement M
-backspace-spec = tie.close (tie.spec (λ c κs. search needs) (λ c κs. search needs) (λ c κs. search needs) returns)
+backspace-spec = tie.close (tie.spec (λ c κs. search needs) (λ c κs. search needs) (λ c κs. search needs) (λ c. cc))

@@ -3,8 +3,5 @@ use borrow.Author.Needs.{needs}
 use Rattle.vt.proofs.controls.carriage_return.Statement.{statement}
 use Rattle.vt.proofs.controls.carriage_return.Tie as tie
 
-returns : tie.Need-returns
-returns c = rw (c .unedited .ensures, c .before .to-column .ensures, c .before .before .left-stop .ensures)
-
 pub carriage-return-spec : {M : Type 1} → statement M
-carriage-return-spec = tie.close (tie.spec (λ c κs. search needs) (λ c κs. search needs) (λ c κs. search needs) returns)
+carriage-return-spec = tie.close (tie.spec (λ c κs. search needs) (λ c κs. search needs) (λ c κs. search needs) (λ c. cc))

@@ -3,8 +3,5 @@ use borrow.Author.Needs.{needs}
 use Rattle.vt.proofs.controls.into_gl.Statement.{statement}
 use Rattle.vt.proofs.controls.into_gl.Tie as tie
 
-returns : tie.Need-returns
-returns c = rw (c .unedited .ensures, c .before .into-gl .ensures)
-
 pub into-gl-spec : {M : Type 1} → statement M
-into-gl-spec = tie.close (tie.spec (λ c κs. search needs) (λ c κs. search needs) returns)
+into-gl-spec = tie.close (tie.spec (λ c κs. search needs) (λ c κs. search needs) (λ c. cc))

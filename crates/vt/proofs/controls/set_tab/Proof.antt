@@ -3,8 +3,5 @@ use borrow.Author.Needs.{needs}
 use Rattle.vt.proofs.controls.set_tab.Statement.{statement}
 use Rattle.vt.proofs.controls.set_tab.Tie as tie
 
-returns : tie.Need-returns
-returns c = rw (c .unedited .ensures, c .before .set .ensures)
-
 pub set-tab-spec : {M : Type 1} → statement M
-set-tab-spec = tie.close (tie.spec (λ c κs. search needs) (λ c κs. search needs) returns)
+set-tab-spec = tie.close (tie.spec (λ c κs. search needs) (λ c κs. search needs) (λ c. cc))

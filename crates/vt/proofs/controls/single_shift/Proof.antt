@@ -3,8 +3,5 @@ use borrow.Author.Needs.{needs}
 use Rattle.vt.proofs.controls.single_shift.Statement.{statement}
 use Rattle.vt.proofs.controls.single_shift.Tie as tie
 
-returns : tie.Need-returns
-returns c = rw (c .unedited .ensures, c .before .with-shift .ensures)
-
 pub single-shift-spec : {M : Type 1} → statement M
-single-shift-spec = tie.close (tie.spec (λ c κs. search needs) (λ c κs. search needs) returns)
+single-shift-spec = tie.close (tie.spec (λ c κs. search needs) (λ c κs. search needs) (λ c. cc))

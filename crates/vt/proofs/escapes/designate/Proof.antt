@@ -3,8 +3,5 @@ use borrow.Author.Needs.{needs}
 use Rattle.vt.proofs.escapes.designate.Statement.{statement}
 use Rattle.vt.proofs.escapes.designate.Tie as tie
 
-returns : tie.Need-returns
-returns c = rw (c .unedited .ensures, c .before .designate .ensures)
-
 pub designate-spec : {M : Type 1} → statement M
-designate-spec = tie.close (tie.spec (λ c κs. search needs) (λ c κs. search needs) returns)
+designate-spec = tie.close (tie.spec (λ c κs. search needs) (λ c κs. search needs) (λ c. cc))

@@ -3,8 +3,5 @@ use borrow.Author.Needs.{needs}
 use Rattle.vt.proofs.escapes.into_gr.Statement.{statement}
 use Rattle.vt.proofs.escapes.into_gr.Tie as tie
 
-returns : tie.Need-returns
-returns c = rw (c .unedited .ensures, c .before .into-gr .ensures)
-
 pub into-gr-spec : {M : Type 1} → statement M
-into-gr-spec = tie.close (tie.spec (λ c κs. search needs) (λ c κs. search needs) returns)
+into-gr-spec = tie.close (tie.spec (λ c κs. search needs) (λ c κs. search needs) (λ c. cc))

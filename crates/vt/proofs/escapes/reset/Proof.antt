@@ -3,8 +3,5 @@ use borrow.Author.Needs.{needs}
 use Rattle.vt.proofs.escapes.reset.Statement.{statement}
 use Rattle.vt.proofs.escapes.reset.Tie as tie
 
-returns : tie.Need-returns
-returns c = rw (c .one-edit .ensures, c .before .fresh-core .ensures)
-
 pub reset-spec : {M : Type 1} → statement M
-reset-spec = tie.close (tie.spec (λ c κs. search needs) (λ c. search needs) (λ c. search needs) (λ c κs. search needs) returns)
+reset-spec = tie.close (tie.spec (λ c κs. search needs) (λ c. search needs) (λ c. search needs) (λ c κs. search needs) (λ c. cc))

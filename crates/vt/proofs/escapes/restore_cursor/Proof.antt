@@ -3,8 +3,5 @@ use borrow.Author.Needs.{needs}
 use Rattle.vt.proofs.escapes.restore_cursor.Statement.{statement}
 use Rattle.vt.proofs.escapes.restore_cursor.Tie as tie
 
-returns : tie.Need-returns
-returns c = rw (c .unedited .ensures, c .before .restore-from .ensures)
-
 pub restore-cursor-spec : {M : Type 1} → statement M
-restore-cursor-spec = tie.close (tie.spec (λ c κs. search needs) (λ c κs. search needs) returns)
+restore-cursor-spec = tie.close (tie.spec (λ c κs. search needs) (λ c κs. search needs) (λ c. cc))

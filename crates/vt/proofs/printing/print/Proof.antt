@@ -11,9 +11,6 @@ returns c =
     let t = c .before in
     rw (← t .before .before .before .used-set .ensures, ← t .before .skipped .ensures, t .if1 .taken) (c .unedited .ensures)
 
-print-word-requires : tie.Need-print-word-requires
-print-word-requires c κs = rw (c .before .before .before .without-shift .ensures) (search needs)
-
 returns-2 : tie.Need-returns-2
 unfolding printed put
 returns-2 c =
@@ -27,6 +24,6 @@ returns-2 c =
 
 pub print-spec : {M : Type 1} → statement M
 print-spec =
-    tie.close
-    (tie.spec (λ c κs. search needs) (λ c κs. search needs) (λ c κs. search needs) (λ c κs. search needs) returns (λ c κs. search needs)
-    print-word-requires (λ c κs. search needs) returns-2)
+    tie.close (tie.spec
+    (λ c κs. search needs) (λ c κs. search needs) (λ c κs. search needs) (λ c κs. search needs) returns (λ c κs. search needs)
+    (λ c κs. search (needs, c .before .before .before .without-shift .ensures)) (λ c κs. search needs) returns-2)

@@ -3,11 +3,5 @@ use borrow.Author.Needs.{needs}
 use Rattle.vt.proofs.printing.put_edit.Statement.{statement}
 use Rattle.vt.proofs.printing.put_edit.Tie as tie
 
-returns : tie.Need-returns
-returns c = rw (c .if1 .taken)
-
-returns-2 : tie.Need-returns-2
-returns-2 c = rw (c .if1 .left)
-
 pub put-edit-spec : {M : Type 1} → statement M
-put-edit-spec = tie.close (tie.spec (λ c. search needs) (λ c. search needs) returns returns-2)
+put-edit-spec = tie.close (tie.spec (λ c. search needs) (λ c. search needs) (λ c. cc) (λ c. cc))

@@ -3,8 +3,5 @@ use borrow.Author.Needs.{needs}
 use Rattle.vt.proofs.printing.skipped.Statement.{statement}
 use Rattle.vt.proofs.printing.skipped.Tie as tie
 
-returns : tie.Need-returns
-returns c = rw (c .has-96 .ensures)
-
 pub skipped-spec : {M : Type 1} → statement M
-skipped-spec = tie.close (tie.spec (λ c κs. search needs) returns)
+skipped-spec = tie.close (tie.spec (λ c κs. search needs) (λ c. cc))

@@ -3,8 +3,5 @@ use borrow.Author.Needs.{needs}
 use Rattle.device.proofs.cursor.Cursor.down.Statement.{statement}
 use Rattle.device.proofs.cursor.Cursor.down.Tie as tie
 
-returns : tie.Need-returns
-returns c = rw (c .on .ensures)
-
 pub down-spec : {M : Type 1} → statement M
-down-spec = tie.close (tie.spec (λ c κs. search needs) returns)
+down-spec = tie.close (tie.spec (λ c κs. search needs) (λ c. rw (c .on .ensures)))

@@ -3,8 +3,5 @@ use borrow.Author.Needs.{needs}
 use Rattle.device.proofs.cursor.Cursor.left.Statement.{statement}
 use Rattle.device.proofs.cursor.Cursor.left.Tie as tie
 
-returns : tie.Need-returns
-returns c = rw (c .back .ensures)
-
 pub left-spec : {M : Type 1} → statement M
-left-spec = tie.close (tie.spec (λ c κs. search needs) returns)
+left-spec = tie.close (tie.spec (λ c κs. search needs) (λ c. rw (c .back .ensures)))

@@ -3,8 +3,5 @@ use borrow.Author.Needs.{needs}
 use Rattle.device.proofs.cursor.Cursor.restore.Statement.{statement}
 use Rattle.device.proofs.cursor.Cursor.restore.Tie as tie
 
-returns : tie.Need-returns
-returns c = rw (c .before .held .ensures)
-
 pub restore-spec : {M : Type 1} → statement M
-restore-spec = tie.close (tie.spec (λ c κs. search needs) returns)
+restore-spec = tie.close (tie.spec (λ c κs. search needs) (λ c. rw (c .before .held .ensures)))

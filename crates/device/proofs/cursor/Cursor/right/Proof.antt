@@ -3,8 +3,5 @@ use borrow.Author.Needs.{needs}
 use Rattle.device.proofs.cursor.Cursor.right.Statement.{statement}
 use Rattle.device.proofs.cursor.Cursor.right.Tie as tie
 
-returns : tie.Need-returns
-returns c = rw (c .on .ensures)
-
 pub right-spec : {M : Type 1} → statement M
-right-spec = tie.close (tie.spec (λ c κs. search needs) returns)
+right-spec = tie.close (tie.spec (λ c κs. search needs) (λ c. rw (c .on .ensures)))

@@ -3,8 +3,5 @@ use borrow.Author.Needs.{needs}
 use Rattle.device.proofs.cursor.Cursor.tab.Statement.{statement}
 use Rattle.device.proofs.cursor.Cursor.tab.Tie as tie
 
-returns : tie.Need-returns
-returns c = rw (c .next .ensures)
-
 pub tab-spec : {M : Type 1} → statement M
-tab-spec = tie.close (tie.spec (λ c κs. search needs) returns)
+tab-spec = tie.close (tie.spec (λ c κs. search needs) (λ c. rw (c .next .ensures)))

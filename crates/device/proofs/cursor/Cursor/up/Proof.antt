@@ -3,8 +3,5 @@ use borrow.Author.Needs.{needs}
 use Rattle.device.proofs.cursor.Cursor.up.Statement.{statement}
 use Rattle.device.proofs.cursor.Cursor.up.Tie as tie
 
-returns : tie.Need-returns
-returns c = rw (c .back .ensures)
-
 pub up-spec : {M : Type 1} → statement M
-up-spec = tie.close (tie.spec (λ c κs. search needs) returns)
+up-spec = tie.close (tie.spec (λ c κs. search needs) (λ c. rw (c .back .ensures)))

@@ -1,10 +1,11 @@
 -- The loop's invariant: the rest is within the bound if all are.
 use borrow.Author.Tests.{le-leb, lt-leb}
-use mathlib.Core.Path.{_≡_, refl, sym, ap, _∙_}
+use mathlib.Core.Path.{_≡_, refl}
 use borrow.Author.Needs.{needs}
-use Prim.Native.Nat.{_-_}
+use mathlib.Core.List.{_∷_}
+use Prim.Native.Nat.{_+_, _-_}
 use lib.ListN.{length, drop}
-use Rattle.parser.specs.Params.{paramList, noneAbove}
+use Rattle.parser.specs.Params.{paramList, param, noneAbove}
 use Rattle.parser.proofs.ParamLaws.{list-more, list-end}
 use Rattle.parser.proofs.params.Params.none_above.Statement.{statement}
 use Rattle.parser.proofs.params.Params.none_above.Tie as tie
@@ -15,26 +16,20 @@ Inv-loop self most count i₀ i = noneAbove most (drop i (paramList self)) ≡ n
 abbrev μ-loop : tie.MeasureT-loop
 μ-loop self most count i₀ i = count - i
 
-loop-holds : tie.Need-loop-holds Inv-loop μ-loop
-loop-holds c = refl
-
-returns : tie.Need-returns Inv-loop μ-loop
-returns c =
-    let e : length (c .before .before .before .before .before .args .self .values) ≡ 16 = search needs in
-    sym (ap (noneAbove (c .before .before .before .before .before .args .most)) (list-more _ _ e (rw (c .before .before .before .before .count .ensures) at (c .before .before .loop-test .taken))) ∙ rw (lt-leb _ _ (rw (c .before .get .ensures) at (c .if1 .taken)))) ∙ c .before .before .before .loop .inv
-
-loop-again : tie.Need-loop-again Inv-loop μ-loop
-loop-again c =
-    let e : length (c .before .before .before .before .before .args .self .values) ≡ 16 = search needs in
-    sym (ap (noneAbove (c .before .before .before .before .before .args .most)) (list-more _ _ e (rw (c .before .before .before .before .count .ensures) at (c .before .before .loop-test .taken))) ∙ rw (le-leb _ _ (rw (c .before .get .ensures) at (c .if1 .left)))) ∙ c .before .before .before .loop .inv
-
-returns-2 : tie.Need-returns-2 Inv-loop μ-loop
-returns-2 c =
-    let e : length (c .before .before .before .args .self .values) ≡ 16 = search needs in
-    sym (ap (noneAbove (c .before .before .before .args .most)) (list-end _ _ e (rw (c .before .before .count .ensures) at (c .loop-test .left)))) ∙ c .before .loop .inv
+-- in a turn: the value that is read, and the rest after it
+turn : (c : tie.After-get Inv-loop μ-loop) → let q = c .before .before .before .before .args .self in let i = c .before .before .loop .i in
+    drop i (paramList q) ≡ param q i ∷ drop (i + 1) (paramList q)
+turn c =
+    let e : length (c .before .before .before .before .args .self .values) ≡ 16 = search needs in
+    list-more _ _ e (rw (c .before .before .before .count .ensures) at (c .before .loop-test .taken))
 
 pub none-above-spec : {M : Type 1} → statement M
 none-above-spec =
-    tie.close
-    (tie.spec Inv-loop μ-loop (λ c κs. search needs) loop-holds (λ c κs. search needs) returns (λ c. search needs) (λ c. search needs) loop-again
-    returns-2)
+    tie.close (tie.spec
+    Inv-loop μ-loop (λ c κs. search needs) (λ c. refl) (λ c κs. search needs)
+    (λ c. rw (← c .before .before .before .loop .inv, turn (c .before), lt-leb _ _ (rw (c .before .get .ensures) at (c .if1 .taken))))
+    (λ c. search needs) (λ c. search needs)
+    (λ c. rw (← c .before .before .before .loop .inv, turn (c .before), le-leb _ _ (rw (c .before .get .ensures) at (c .if1 .left))))
+    (λ c. let self = c .before .before .before .args .self in
+    let e : length (self .values) ≡ 16 = search needs in
+    rw (← c .before .loop .inv, list-end self _ e (rw (c .before .before .count .ensures) at (c .loop-test .left)))))

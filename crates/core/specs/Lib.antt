@@ -1,0 +1,6 @@
+pub mod Fresh
+pub mod Whole
+pub mod Bounds
+pub mod Geometry
+pub mod Modes
+pub mod Effects

@@ -1,0 +1,59 @@
+// The state of the terminal but for the changed rows: fresh, whole, where things stop, and what a byte does to it.
+pub mod effects;
+pub mod fresh;
+pub mod geometry;
+pub mod whole;
+
+use cells::Rendition;
+use device::charsets::Sets;
+use device::charsets::SingleShift;
+use device::cursor::Cursor;
+use device::tabs::Tabs;
+use page::Edit;
+use parser::parser::Parser;
+
+// Rows T to B scroll.
+pub struct Margins {
+    pub top: u8,
+    pub bottom: u8,
+}
+
+// `shown` is the cursor's (DECTCEM); `eightbit` sends a reply's CSI as one byte (S8C1T).
+pub struct Modes {
+    pub insert: bool,
+    pub newline: bool,
+    pub origin: bool,
+    pub autowrap: bool,
+    pub shown: bool,
+    pub eightbit: bool,
+}
+
+// What ESC 7 saves (DECSC).
+pub struct Saved {
+    pub cursor: Cursor,
+    pub rendition: Rendition,
+    pub origin: bool,
+    pub sets: Sets,
+}
+
+pub struct Core {
+    pub rows: u8,
+    pub cursor: Cursor,
+    pub margins: Margins,
+    pub tabs: Tabs,
+    pub modes: Modes,
+    pub rendition: Rendition,
+    pub protected: bool,
+    pub sets: Sets,
+    pub shift: SingleShift,
+    pub saved: Saved,
+    pub parser: Parser,
+}
+
+// What a byte does: the next core, and the edits of its one or two steps, `Keep` where a step leaves
+// the page.
+pub struct Decision {
+    pub core: Core,
+    pub first: Edit,
+    pub second: Edit,
+}

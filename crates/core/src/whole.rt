@@ -1,0 +1,38 @@
+// Whether a state is whole.
+use crate::Core;
+use ground::tests::between;
+use parser::whole::is_whole_parser;
+ghost use mathlib.Core.Path.{_≡_};
+ghost use Rattle.ground.specs.Tests.{all};
+ghost use Rattle.core.specs.Whole as whole;
+
+pub fn is_sized(rows: u8) -> bool
+    ensures { λ r. ⌜ r ≡ whole.sized rows ⌝ }
+{
+    ((rows == 24) | (rows == 36)) | (rows == 48)
+}
+
+fn is_whole_screen(core: Core) -> bool
+    ensures { λ r. ⌜ r ≡ all (whole.coreTests core) ⌝ }
+{
+    let cursor = core.cursor;
+    let margins = core.margins;
+    let saved = core.saved.cursor;
+    let rows = core.rows;
+    is_sized(rows)
+        & between(1, cursor.row, rows)
+        & between(1, cursor.column, 80)
+        & ((1 <= margins.top) & (margins.top < margins.bottom) & (margins.bottom <= rows))
+        & (!cursor.wrap | ((cursor.column == 80) & core.modes.autowrap))
+        & (!core.modes.origin | between(margins.top, cursor.row, margins.bottom))
+        & between(1, saved.row, rows)
+        & between(1, saved.column, 80)
+        & (!saved.wrap | (saved.column == 80))
+}
+
+pub fn is_whole(core: Core) -> bool
+    ensures { λ r. ⌜ r ≡ whole.wholeCore core ⌝ }
+{
+    let parser = core.parser;
+    is_whole_screen(core) & is_whole_parser(parser)
+}

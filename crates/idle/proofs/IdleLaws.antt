@@ -1,0 +1,146 @@
+-- Bytes that only move the parser: none, one, and some after others; ESC, CSI and its parameters are such bytes.
+use mathlib.Core.Path.{_≡_, refl, ap, _∙_}
+use mathlib.Core.Bool.{Bool, true, _&&_, _||_}
+use mathlib.Core.List.{List, [], _∷_, _++_}
+use Prim.Native.Nat.{ℕ, _+_, _≤_, _<_}
+use native.Mathlib.Nat.{le-refl}
+use native.Mathlib.Omega.{arith}
+use lib.Dec.{eqb, ltb}
+use lib.ListN.{length, getD}
+use borrow.Author.Tests.{not-true, eqb-true, ltb-true, ne-eqb, le-ltb, lt-ltb}
+use Rattle.parser.specs.declared.phases.Phase.{Phase}
+use Rattle.parser.specs.declared.phases.Phase.the-variants.{Escape, CsiEntry, CsiParam}
+use Rattle.parser.specs.declared.phases.Op.the-variants.{Ignore, Param}
+use Rattle.parser.specs.declared.parser.Parser.{Parser}
+use Rattle.parser.specs.declared.parser.Action.the-variants.{Nothing}
+use Rattle.parser.specs.declared.parser.Decoded.{Decoded}
+use Rattle.idle.specs.declared.Idle.{Idle}
+use Rattle.parser.specs.Parser.{to, transition, cleared, gathered, decode}
+use Rattle.ground.specs.Tests.{between}
+use Rattle.idle.specs.Idle.{parsed, AllIdle, isParameter, isText, Skipped}
+use Rattle.ground.specs.Spans.{span}
+use Rattle.parser.specs.Phases.{phaseNumber, isString, takesParameters}
+use Rattle.ground.proofs.TestLaws.{and-left, and-right, or-cases, or-left, or-right, between-low, between-high}
+use Rattle.parser.proofs.SequenceLaws.{decode-by, in-parameters, lowered-low}
+use Rattle.ground.proofs.SpanLaws.{span-none, span-more, span-append}
+
+-- a byte that only moves the parser
+abbrev pub moved : Parser → Decoded
+moved s = record { parser = s; action = Nothing }
+
+-- ---- bytes after others
+
+pub parsed-append : (s : Parser) (xs ys : List ℕ) → parsed s (xs ++ ys) ≡ parsed (parsed s xs) ys
+unfolding parsed
+parsed-append s [] ys = refl
+parsed-append s (x ∷ xs) ys = parsed-append (decode s x .parser) xs ys
+
+pub idle-append : (s : Parser) (xs ys : List ℕ) → AllIdle s xs → AllIdle (parsed s xs) ys → AllIdle s (xs ++ ys)
+unfolding parsed AllIdle
+idle-append s [] ys h k = k
+idle-append s (x ∷ xs) ys h k = (h .0, idle-append (decode s x .parser) xs ys (h .1) k)
+
+-- none
+pub skipped-none : (s : Parser) (input : List ℕ) (from : ℕ) → from ≤ length input → Skipped s input from (record { parser = s; next = from })
+unfolding parsed AllIdle
+skipped-none s input from h = let e = span-none input from in record { start = le-refl from; end = h; parser-is = rw e; idle = rw e tt }
+
+-- one
+pub skipped-one : (s q : Parser) (input : List ℕ) (i : ℕ) → i < length input → decode s (getD input i 0) ≡ moved q
+    → Skipped s input i (record { parser = q; next = i + 1 })
+unfolding parsed AllIdle
+skipped-one s q input i h d =
+    let e : span input i (i + 1) ≡ getD input i 0 ∷ [] = rw (span-more input i i (le-refl i) h, span-none input i) in
+    record { start = omega arith; end = omega arith; parser-is = rw (e, ← ap (λ (r : Decoded). r .parser) d); idle = rw e (rw d, tt) }
+
+-- some after others
+pub skipped-on : {s : Parser} {input : List ℕ} {from : ℕ} {r t : Idle} → Skipped s input from r → Skipped (r .parser) input (r .next) t
+    → Skipped s input from t
+skipped-on {s} {input} {from} {r} {t} a b =
+    let e = span-append input from (r .next) (t .next) (a .start) (b .start) in
+    record {
+      start = omega (arith, a .start, b .start);
+      end = b .end;
+      parser-is = rw (e, parsed-append, ← a .parser-is) (b .parser-is);
+      idle = rw e (idle-append s _ _ (a .idle) (rw (a .parser-is) at (b .idle)));
+    }
+
+-- one more
+pub skipped-more :
+    {s : Parser} {input : List ℕ} {from : ℕ} {r : Idle} (q : Parser)
+    → Skipped s input from r
+    → r .next < length input
+    → decode (r .parser) (getD input (r .next) 0) ≡ moved q
+    → Skipped s input from (record { parser = q; next = r .next + 1 })
+skipped-more {s} {input} {from} {r} q a h d = skipped-on a (skipped-one (r .parser) q input (r .next) h d)
+
+-- a test of a byte tells that it is there
+there : (input : List ℕ) (i : ℕ) (t : Bool) → (ltb i (length input) && t) ≡ true → i < length input
+there input i t e = ltb-true i (length input) (and-left (ltb i (length input)) t e)
+
+-- a byte that is known by a test
+pub skipped-known :
+    (s q : Parser) (input : List ℕ) (i b : ℕ)
+    → (ltb i (length input) && eqb (getD input i 0) b) ≡ true
+    → decode s b ≡ moved q
+    → Skipped s input i (record { parser = q; next = i + 1 })
+skipped-known s q input i b e d =
+    let here = eqb-true (getD input i 0) b (and-right (ltb i (length input)) _ e) in
+    skipped-one s q input i (there input i _ e) (rw here d)
+
+-- ---- which bytes
+
+pub escape-idle : (s : Parser) → decode s 0x1B ≡ moved (cleared Escape)
+unfolding decode transition
+escape-idle s = refl
+
+pub csi-idle : (s : Parser) → s .phase ≡ Escape → decode s 0x5B ≡ moved (cleared CsiEntry)
+unfolding decode transition
+csi-idle s e = rw e
+
+-- 30 to 39 and 3B
+range : (b : ℕ) → isParameter b ≡ true → (0x30 ≤ b) × (b < 0x3C) × (b ≡ 0x3A → ⊥)
+range b h =
+    or-cases (between 0x30 b 0x39) (eqb b 0x3B) h
+    (λ e. let l = between-low 0x30 b 0x39 e in let u = between-high 0x30 b 0x39 e in (l, omega arith, λ x. omega arith))
+    (λ e. let k = eqb-true b 0x3B e in (omega arith, omega arith, λ x. omega arith))
+
+parameter-idle : (s : Parser) (b : ℕ) → takesParameters (s .phase) ≡ true → isParameter b ≡ true → decode s b ≡ moved (gathered CsiParam s b)
+parameter-idle s b e h =
+    let r = range b h in
+    decode-by s b _
+    (in-parameters b (to CsiParam Param) (omega arith) (omega arith)
+    (λ m. rw (le-ltb b 0x30 (r .0), ne-eqb b 0x3A (r .2), lt-ltb b 0x3C (r .1))) (s .phase) e)
+    ∙ rw (lowered-low b (omega arith))
+
+-- one more parameter byte
+pub skipped-parameter :
+    {s : Parser} {input : List ℕ} {from : ℕ} {r : Idle}
+    → Skipped s input from r
+    → takesParameters (r .parser .phase) ≡ true
+    → (ltb (r .next) (length input) && isParameter (getD input (r .next) 0)) ≡ true
+    → Skipped s input from (record { parser = gathered CsiParam (r .parser) (getD input (r .next) 0); next = r .next + 1 })
+skipped-parameter {s} {input} {from} {r} a e k =
+    skipped-more _ a (there input (r .next) _ k) (parameter-idle (r .parser) _ e (and-right (ltb (r .next) (length input)) _ k))
+
+-- ---- the text of a string
+
+text-rule : (p : Phase) (b : ℕ) → isString p ≡ true → isText b ≡ true → transition p b ≡ to p Ignore
+unfolding transition
+text-rule p b e h =
+    let first = eqb b 0x18 || eqb b 0x1A in
+    let rest = eqb b 0x1B || between 0x80 b 0x9F in
+    let n = not-true (first || rest) h in
+    let l = or-left first rest n in
+    let r = or-right first rest n in
+    rw (or-left (eqb b 0x18) _ l, or-right (eqb b 0x18) _ l, or-left (eqb b 0x1B) _ r, or-right (eqb b 0x1B) _ r, eqb-true (phaseNumber p) 10 e)
+
+-- one more byte of it
+pub skipped-text :
+    {s : Parser} {input : List ℕ} {from i : ℕ}
+    → Skipped s input from (record { parser = s; next = i })
+    → i < length input
+    → isString (s .phase) ≡ true
+    → isText (getD input i 0) ≡ true
+    → Skipped s input from (record { parser = s; next = i + 1 })
+skipped-text {s} {input} {from} {i} a l e h = skipped-more s a l (decode-by s _ _ (text-rule (s .phase) (getD input i 0) e h))

@@ -1,0 +1,38 @@
+-- The command V: what it writes of a state. A flag is 1 or 0.
+use mathlib.Core.List.{List, [], _∷_, _++_}
+use Prim.Native.Nat.{ℕ}
+use Rattle.cells.specs.Cells.{bit, setNumber}
+use Rattle.cells.specs.declared.Rendition.{Rendition}
+use Rattle.device.specs.Charsets.{registerNumber, shiftNumber}
+use Rattle.device.specs.declared.charsets.Sets.{Sets}
+use Rattle.device.specs.declared.cursor.Cursor.{Cursor}
+use Rattle.core.specs.declared.Core.{Core}
+use Rattle.core.specs.declared.Modes.{Modes}
+use Rattle.core.specs.declared.Saved.{Saved}
+
+abbrev pub cursorBytes : Cursor → List ℕ
+cursorBytes u = u .row ∷ u .column ∷ bit (u .wrap) ∷ []
+
+abbrev pub modeBytes : Modes → List ℕ
+modeBytes m = bit (m .insert) ∷ bit (m .newline) ∷ bit (m .origin) ∷ bit (m .autowrap) ∷ bit (m .shown) ∷ bit (m .eightbit) ∷ []
+
+abbrev pub renditionBytes : Rendition → List ℕ
+renditionBytes r = bit (r .bold) ∷ bit (r .underline) ∷ bit (r .blink) ∷ bit (r .reverse) ∷ []
+
+abbrev pub setBytes : Sets → List ℕ
+setBytes s = setNumber (s .g0) ∷ setNumber (s .g1) ∷ setNumber (s .g2) ∷ setNumber (s .g3) ∷ registerNumber (s .gl) ∷ registerNumber (s .gr) ∷ []
+
+abbrev pub savedBytes : Saved → List ℕ
+savedBytes s = cursorBytes (s .cursor) ++ renditionBytes (s .rendition) ++ (bit (s .origin) ∷ []) ++ setBytes (s .sets)
+
+-- R, the cursor, T, B, the modes
+abbrev pub placeBytes : Core → List ℕ
+placeBytes c = (c .rows ∷ []) ++ cursorBytes (c .cursor) ++ (c .margins .top ∷ c .margins .bottom ∷ []) ++ modeBytes (c .modes)
+
+-- the rendition, protection, the sets, the pending shift
+abbrev pub writingBytes : Core → List ℕ
+writingBytes c = renditionBytes (c .rendition) ++ (bit (c .protected) ∷ []) ++ setBytes (c .sets) ++ (shiftNumber (c .shift) ∷ [])
+
+-- these, what is saved, and the tabs
+abbrev pub viewBytes : Core → List ℕ
+viewBytes c = placeBytes c ++ writingBytes c ++ savedBytes (c .saved) ++ c .tabs .flags

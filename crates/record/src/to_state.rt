@@ -1,0 +1,203 @@
+// The state that a record holds.
+use crate::CursorRecord;
+use crate::ModesRecord;
+use crate::ParserRecord;
+use crate::RenditionRecord;
+use crate::SavedRecord;
+use crate::SetsRecord;
+use crate::Terminal;
+use crate::numbers::is_on;
+use cells::Rendition;
+use cells::words::set_of;
+use core::Core;
+use core::Margins;
+use core::Modes;
+use core::Saved;
+use device::charsets::Sets;
+use device::charsets::register_of;
+use device::charsets::shift_of;
+use device::cursor::Cursor;
+use device::tabs::Tabs;
+use parser::params::Params;
+use parser::parser::Parser;
+use parser::phases::phase_of;
+use steps::State;
+use steps::Tracked;
+ghost use mathlib.Core.Path.{_≡_};
+ghost use Rattle.record.specs.Record as records;
+
+fn cursor_of(cursor: CursorRecord) -> Cursor
+    ensures { λ r. ⌜ r ≡ records.cursorOf cursor ⌝ }
+{
+    Cursor {
+        row: cursor.row,
+        column: cursor.column,
+        wrap: is_on(cursor.wrap),
+    }
+}
+
+fn modes_of(modes: ModesRecord) -> Modes
+    ensures { λ r. ⌜ r ≡ records.modesOf modes ⌝ }
+{
+    Modes {
+        insert: is_on(modes.insert),
+        newline: is_on(modes.newline),
+        origin: is_on(modes.origin),
+        autowrap: is_on(modes.autowrap),
+        shown: is_on(modes.shown),
+        eightbit: is_on(modes.eightbit),
+    }
+}
+
+fn rendition_of(rendition: RenditionRecord) -> Rendition
+    ensures { λ r. ⌜ r ≡ records.renditionOf rendition ⌝ }
+{
+    Rendition {
+        bold: is_on(rendition.bold),
+        underline: is_on(rendition.underline),
+        blink: is_on(rendition.blink),
+        reverse: is_on(rendition.reverse),
+    }
+}
+
+fn sets_of(sets: SetsRecord) -> Sets
+    ensures { λ r. ⌜ r ≡ records.setsOf sets ⌝ }
+{
+    Sets {
+        g0: set_of(sets.g0),
+        g1: set_of(sets.g1),
+        g2: set_of(sets.g2),
+        g3: set_of(sets.g3),
+        gl: register_of(sets.gl),
+        gr: register_of(sets.gr),
+    }
+}
+
+fn saved_of(saved: SavedRecord) -> Saved
+    ensures { λ r. ⌜ r ≡ records.savedOf saved ⌝ }
+{
+    Saved {
+        cursor: cursor_of(saved.cursor),
+        rendition: rendition_of(saved.rendition),
+        origin: is_on(saved.origin),
+        sets: sets_of(saved.sets),
+    }
+}
+
+fn parser_of(parser: ParserRecord, values: [u16; 16]) -> Parser
+    ensures { λ r. ⌜ r ≡ records.parserOf parser values ⌝ }
+{
+    let params = Params {
+        separators: parser.separators,
+        values,
+    };
+    Parser {
+        phase: phase_of(parser.phase),
+        mark: parser.mark,
+        first: parser.first,
+        second: parser.second,
+        params,
+    }
+}
+
+// The core of a record, with a number of rows in the place of its own.
+fn core_of(terminal: Terminal, rows: u8) -> Core
+    ensures { λ r. ⌜ r ≡ records.coreOf terminal rows ⌝ }
+{
+    let values = terminal.values;
+    let flags = terminal.tabs;
+    let tabs = Tabs { flags };
+    let margins = Margins {
+        top: terminal.top,
+        bottom: terminal.bottom,
+    };
+    Core {
+        rows,
+        cursor: cursor_of(terminal.cursor),
+        margins,
+        tabs,
+        modes: modes_of(terminal.modes),
+        rendition: rendition_of(terminal.rendition),
+        protected: is_on(terminal.protected),
+        sets: sets_of(terminal.sets),
+        shift: shift_of(terminal.shift),
+        saved: saved_of(terminal.saved),
+        parser: parser_of(terminal.parser, values),
+    }
+}
+
+// ---- a record whose numbers all name something
+
+fn rendition_named(rendition: RenditionRecord) -> bool
+    ensures { λ r. ⌜ r ≡ records.renditionNamed rendition ⌝ }
+{
+    (rendition.bold < 2)
+        & (rendition.underline < 2)
+        & (rendition.blink < 2)
+        & (rendition.reverse < 2)
+}
+
+fn modes_named(modes: ModesRecord) -> bool
+    ensures { λ r. ⌜ r ≡ records.modesNamed modes ⌝ }
+{
+    (modes.insert < 2)
+        & (modes.newline < 2)
+        & (modes.origin < 2)
+        & (modes.autowrap < 2)
+        & (modes.shown < 2)
+        & (modes.eightbit < 2)
+}
+
+fn sets_named(sets: SetsRecord) -> bool
+    ensures { λ r. ⌜ r ≡ records.setsNamed sets ⌝ }
+{
+    (sets.g0 < 4) & (sets.g1 < 4) & (sets.g2 < 4) & (sets.g3 < 4) & (sets.gl < 4) & (sets.gr < 4)
+}
+
+fn saved_named(saved: SavedRecord) -> bool
+    ensures { λ r. ⌜ r ≡ records.savedNamed saved ⌝ }
+{
+    let cursor = saved.cursor;
+    let rendition = rendition_named(saved.rendition);
+    let sets = sets_named(saved.sets);
+    (cursor.wrap < 2) & rendition & (saved.origin < 2) & sets
+}
+
+fn named(terminal: Terminal) -> bool
+    ensures { λ r. ⌜ r ≡ records.named terminal ⌝ }
+{
+    let cursor = terminal.cursor;
+    let parser = terminal.parser;
+    let modes = modes_named(terminal.modes);
+    let rendition = rendition_named(terminal.rendition);
+    let sets = sets_named(terminal.sets);
+    let saved = saved_named(terminal.saved);
+    (terminal.protected < 2)
+        & (terminal.shift < 3)
+        & (cursor.wrap < 2)
+        & (parser.phase < 11)
+        & modes
+        & rendition
+        & sets
+        & saved
+}
+
+// A record with a number that names nothing is that of a terminal without rows, which is broken.
+pub fn state_of(terminal: Terminal) -> State
+    ensures { λ r. ⌜ r ≡ records.stateOf terminal ⌝ }
+{
+    if !named(terminal) {
+        return State {
+            core: core_of(terminal, 0),
+            tracked: Tracked {
+                changed: terminal.changed,
+            },
+        };
+    }
+    State {
+        core: core_of(terminal, terminal.rows),
+        tracked: Tracked {
+            changed: terminal.changed,
+        },
+    }
+}
