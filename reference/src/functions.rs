@@ -339,6 +339,8 @@ impl Scene {
             rendition: self.state.rendition,
             origin: self.state.origin,
             sets: self.state.sets,
+            protection: self.state.protection,
+            shift: self.state.shift,
         };
     }
 
@@ -348,6 +350,8 @@ impl Scene {
         self.state.rendition = saved.rendition;
         self.state.origin = saved.origin;
         self.state.sets = saved.sets;
+        self.state.protection = saved.protection;
+        self.state.shift = saved.shift;
         if self.state.origin {
             if self.state.cursor.row < self.state.top {
                 self.state.cursor.row = self.state.top;

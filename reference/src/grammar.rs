@@ -74,12 +74,13 @@ enum Kind {
     ProtectScene,
     WrapScene,
     ShiftScene,
+    SaveScene,
     OriginScene,
     EchoScene,
 }
 
 /// Every kind, with its usual weight.
-const KINDS: [(Kind, usize); 30] = [
+const KINDS: [(Kind, usize); 31] = [
     (Kind::Text, 30),
     (Kind::EdgeText, 15),
     (Kind::Controls, 15),
@@ -108,6 +109,7 @@ const KINDS: [(Kind, usize); 30] = [
     (Kind::ProtectScene, 6),
     (Kind::WrapScene, 8),
     (Kind::ShiftScene, 5),
+    (Kind::SaveScene, 8),
     (Kind::OriginScene, 5),
     (Kind::EchoScene, 2),
 ];
@@ -237,6 +239,7 @@ impl Writer {
             Kind::ProtectScene => self.protect_scene(),
             Kind::WrapScene => self.wrap_scene(),
             Kind::ShiftScene => self.shift_scene(),
+            Kind::SaveScene => self.save_scene(),
             Kind::OriginScene => self.origin_scene(),
             Kind::EchoScene => self.echo_scene(),
         }
@@ -608,7 +611,7 @@ impl Writer {
 
     fn unlisted(&mut self) {
         if self.random.percent(30) {
-            let count = self.random.pick(&[0, 0, 1, 1, 2, 3, 5]);
+            let count = self.random.pick(&[0, 1, 1, 2, 3, 4, 5]);
             let intermediates: Vec<u8> = (0..count).map(|_| self.random.byte(0x20, 0x2F)).collect();
             let last = self.random.byte(0x30, 0x7E);
             // Seldom the one that makes all fresh.
@@ -966,6 +969,51 @@ impl Writer {
         }
         let length = self.random.between(1, 4);
         self.text(length);
+    }
+
+    /// Saved with one protection and shift, restored with another.
+    fn save_scene(&mut self) {
+        if self.random.percent(25) {
+            self.csi("?7", "h");
+            let row = self.random.pick(&[1, 5, 23, 24, 36, 48]);
+            self.csi(&format!("{row};80"), "H");
+            self.text(1);
+        }
+        self.protection_and_shift();
+        self.escape(b"", b'7');
+        for _ in 0..self.random.between(1, 3) {
+            match self.random.below(6) {
+                0 => self.any_listed(),
+                1 => self.place(),
+                2 => self.sets(),
+                _ => {
+                    let length = self.random.between(1, 4);
+                    self.text(length);
+                }
+            }
+            self.protection_and_shift();
+            if self.random.percent(80) {
+                self.escape(b"", b'8');
+            }
+        }
+        let length = self.random.between(1, 4);
+        self.text(length);
+        if self.random.percent(25) {
+            let selector = self.random.pick(&["", "1", "2"]);
+            self.csi(&format!("?{selector}"), "K");
+        }
+    }
+
+    /// CSI " q, a shift, both or neither.
+    fn protection_and_shift(&mut self) {
+        if self.random.percent(70) {
+            let selector = self.random.pick(&["1", "1", "0", "2", ""]);
+            self.csi(selector, "\"q");
+        }
+        if self.random.percent(50) {
+            let byte = self.random.pick(&[0x8E, 0x8F]);
+            self.high_control(byte);
+        }
     }
 
     fn origin_scene(&mut self) {

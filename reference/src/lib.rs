@@ -1,9 +1,10 @@
 //! A plain reference program for the VT420 console reader.
 //!
-//! It is written from the scope paper (see docs/SCOPE.md) alone, and is slow on
-//! purpose: during a call the page is rows of unpacked cells; every step makes
-//! a whole new page; the rows that a step changed are found by comparing the
-//! whole page before it with the whole page after it.
+//! It is written from the scope paper and the requests that are met (see
+//! docs/SCOPE.md) alone, and is slow on purpose: during a call the page is rows
+//! of unpacked cells; every step makes a whole new page; the rows that a step
+//! changed are found by comparing the whole page before it with the whole page
+//! after it.
 //!
 //! * `cell`: one cell and its word.
 //! * `page`: the rows of cells, and what can be done to them.

@@ -12,7 +12,7 @@ pub const SIZES: [u16; 3] = [24, 36, 48];
 const ROOM: u16 = 12;
 
 /// The bytes of every file in the directory of captures.
-pub const CAPTURES: [(&str, &[u8]); 13] = [
+pub const CAPTURES: [(&str, &[u8]); 14] = [
     ("boot", include_bytes!("../../captures/boot.bytes")),
     ("damaged", include_bytes!("../../captures/damaged.bytes")),
     ("edge", include_bytes!("../../captures/edge.bytes")),
@@ -23,6 +23,10 @@ pub const CAPTURES: [(&str, &[u8]); 13] = [
     ("log", include_bytes!("../../captures/log.bytes")),
     ("margins", include_bytes!("../../captures/margins.bytes")),
     ("menu", include_bytes!("../../captures/menu.bytes")),
+    (
+        "saved-form",
+        include_bytes!("../../captures/saved-form.bytes"),
+    ),
     ("sets", include_bytes!("../../captures/sets.bytes")),
     ("status", include_bytes!("../../captures/status.bytes")),
     ("strings", include_bytes!("../../captures/strings.bytes")),
@@ -46,6 +50,7 @@ pub fn fixed_parts() -> Vec<Script> {
         examples::script(),
         captures(),
         functions_at_the_edges(),
+        saved_protection_and_shift(),
         bytes_in_each_phase(),
         rooms(),
         broken_states(),
@@ -265,6 +270,28 @@ fn preparations(rows: u16) -> Vec<Preparation> {
         40,
         "\x1B[12r\x1B[?6;7h\x1B[3;80Hz\x1B7\x1B[?6l\x1B[5;9r\x1B[7;40H".into(),
     );
+    // Saved inside protection, now off; also with wrap due.
+    add(7, 40, "\u{9B}7;40H\u{9B}1\"q\x1B7\u{9B}\"qz".into());
+    add(
+        7,
+        79,
+        "\u{9B}?7h\u{9B}7;79H\u{9B}1\"q\x1B7\u{9B}\"qyz".into(),
+    );
+    // Saved with a shift, none now; also with wrap due saved.
+    add(7, 40, "\u{9B}7;40H\u{8E}\x1B7z".into());
+    add(7, 80, "\u{9B}?7h\u{9B}7;80Hz\u{8E}\x1B7\rz".into());
+    // Saved with G3 and protection, now G2 pending and no protection; also in
+    // insert mode.
+    let both = "\x1B+0\u{9B}7;40H\u{9B}1\"q\u{8F}\x1B7z\u{9B}\"q\u{8E}";
+    add(7, 40, both.into());
+    add(7, 40, format!("\u{9B}4h{both}"));
+    // Saved without either, both now; also with margins and origin.
+    add(7, 40, "\u{9B}7;40H\x1B7z\u{9B}1\"q\u{8E}".into());
+    add(
+        7,
+        40,
+        "\u{9B}5;10r\u{9B}?6h\u{9B}3;40H\x1B7z\u{9B}1\"q\u{8E}".into(),
+    );
     // Latin-1 in GL and GR; Special Graphics; Supplemental.
     add(7, 40, "\x1B-A\x0E\x1B~\x1B[7;40H".into());
     add(7, 40, "\x1B.A\x1Bn\x1B[7;40H".into());
@@ -381,6 +408,9 @@ fn listed(rows: u16) -> Vec<Vec<u8>> {
         &b"\x1B7\x1B[3;3H\x1B8"[..],
         b"\x1B7\x1B[?7l\x1B8q",
         b"\x1B8q",
+        b"\x8E\x1B7q\x1B8q",
+        b"\x1B7\x8F\x1B8q",
+        b"\x9B1\"q\x1B7\x9B\"q\x1B8q",
         b"\x1B[!p\x1B8q",
         b"\x1B[2J\x1Bc",
         // Is origin on?
@@ -653,6 +683,70 @@ pub fn functions_at_the_edges() -> Script {
         }
     }
     s
+}
+
+// ---- Protection and shift in the saved cursor -------------------------------
+
+/// Every protection with every shift: the bytes that bring it about where no
+/// shift is pending.
+const WRITING: [&[u8]; 6] = [
+    b"\x9B\"q",
+    b"\x9B\"q\x8E",
+    b"\x9B\"q\x8F",
+    b"\x9B1\"q",
+    b"\x9B1\"q\x8E",
+    b"\x9B1\"q\x8F",
+];
+
+/// ASCII in GL, Supplemental in GR, Special Graphics in G2, Latin-1 in G3.
+const FOUR_SETS: &[u8] = b"\x1B)%5\x1B~\x1B*0\x1B/A";
+
+/// Every protection and shift saved, with every one of now, with and without
+/// origin, insert and wrap due: restored, printed with, restored again; then
+/// saved and restored at once; then a reset between saving and restoring.
+pub fn saved_protection_and_shift() -> Script {
+    let mut s = Script::new();
+    let mut number = 0usize;
+    for situation in 0..8 {
+        for saved in WRITING {
+            for now in WRITING {
+                let rows = SIZES[(number + situation) % 3];
+                number += 1;
+                saved_and_now(&mut s, rows, situation, saved, now);
+                feed_each(&mut s, &[b"\x1B8", b"q", b"\xE1q"]);
+                s.page();
+                // A call may end inside ESC 8 and ESC 7.
+                feed_each(&mut s, &[now, b"\x1B", b"8", b"\xE1", b"q"]);
+                feed_each(&mut s, &[now, b"\x1B", b"7", b"\x1B8", b"q\xE1q"]);
+                s.page();
+                for reset in [&b"\x9B!p"[..], b"\x1Bc"] {
+                    saved_and_now(&mut s, rows, situation, saved, now);
+                    feed_each(&mut s, &[reset, now, b"\x1B8", b"q\xE1q"]);
+                    for column in 1..=4 {
+                        s.read(1, column);
+                    }
+                }
+            }
+        }
+    }
+    s
+}
+
+/// Saved in row 7; "z" in row 8 ends the shift, and wrap is due again if it was.
+fn saved_and_now(s: &mut Script, rows: u16, situation: usize, saved: &[u8], now: &[u8]) {
+    s.start_right(rows);
+    origin_insert_wrap(s, situation);
+    s.feed(&[FOUR_SETS, saved, b"\x1B7\nz", now].concat(), 0);
+    s.view();
+    s.ask();
+}
+
+fn feed_each(s: &mut Script, pieces: &[&[u8]]) {
+    for piece in pieces {
+        s.feed(piece, 0);
+        s.view();
+        s.ask();
+    }
 }
 
 // ---- Every byte in each phase -----------------------------------------------
@@ -1592,6 +1686,7 @@ impl Session {
 #[cfg(test)]
 mod tests {
     use super::*;
+    use crate::state::Shift;
 
     #[test]
     fn a_script_depends_on_its_seed_alone() {
@@ -1599,6 +1694,33 @@ mod tests {
         assert_ne!(streams(5, 2_000).bytes, streams(6, 2_000).bytes);
         let script = streams(7, 50_000);
         assert!(script.input >= 50_000 && script.input < 52_000);
+    }
+
+    /// What there is before each ESC 8 that is fed alone.
+    #[test]
+    fn every_saved_protection_and_shift_meets_every_other() {
+        let mut machine = Machine::new();
+        let mut seen = Vec::new();
+        let mut output = Vec::new();
+        for command in commands(&saved_protection_and_shift().bytes) {
+            let state = machine.state();
+            let saved = &state.saved;
+            let writing = (saved.protection, saved.shift, state.protection, state.shift);
+            let wraps = (saved.cursor.wrap_due, state.cursor.wrap_due);
+            let fact = (writing, wraps, state.origin, state.insert);
+            if command.following == b"\x1B8" && !seen.contains(&fact) {
+                seen.push(fact);
+            }
+            machine.carry_out(command, &mut output);
+        }
+        let shifts = [None, Some(Shift::G2), Some(Shift::G3)];
+        for number in 0..32 * 9 {
+            let flag = |bit: usize| number >> bit & 1 == 1;
+            let (saved, now) = (shifts[number / 32 % 3], shifts[number / 96]);
+            let writing = (flag(0), saved, flag(1), now);
+            let fact = (writing, (flag(2), flag(2)), flag(3), flag(4));
+            assert!(seen.contains(&fact), "{fact:?}");
+        }
     }
 
     #[test]

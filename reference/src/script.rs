@@ -35,14 +35,14 @@ pub const CHANGED_ROW: u16 = 12;
 const PARSER_BYTES: usize = 37;
 
 /// The bytes that V writes after its letter, and where some of them are.
-pub const VIEW_BYTES: usize = 48;
+pub const VIEW_BYTES: usize = 50;
 pub const VIEW_ROW: usize = 1;
 pub const VIEW_COLUMN: usize = 2;
 pub const VIEW_WRAP_DUE: usize = 3;
 pub const VIEW_TOP: usize = 4;
 pub const VIEW_BOTTOM: usize = 5;
 pub const VIEW_SHOWN: usize = 10;
-pub const VIEW_TABS: usize = 38;
+pub const VIEW_TABS: usize = 40;
 
 /// A script being built.
 #[derive(Clone, Default)]
@@ -339,7 +339,7 @@ fn view_of(state: &State) -> [u8; VIEW_BYTES] {
         state.cursor_shown,
         state.eight_bit_replies,
     ];
-    let shift = match state.shift {
+    let shift = |pending: Option<Shift>| match pending {
         None => 0,
         Some(Shift::G2) => 1,
         Some(Shift::G3) => 2,
@@ -354,12 +354,14 @@ fn view_of(state: &State) -> [u8; VIEW_BYTES] {
     bytes.extend(rendition(state.rendition));
     bytes.push(state.protection as u8);
     bytes.extend(sets(state.sets));
-    bytes.push(shift);
+    bytes.push(shift(state.shift));
     bytes.extend([saved.cursor.row as u8, saved.cursor.column as u8]);
     bytes.push(saved.cursor.wrap_due as u8);
     bytes.extend(rendition(saved.rendition));
     bytes.push(saved.origin as u8);
     bytes.extend(sets(saved.sets));
+    bytes.push(saved.protection as u8);
+    bytes.push(shift(saved.shift));
     for eight in state.tabs.chunks(8) {
         bytes.push((0..8).map(|n| (eight[n] as u8) << n).sum());
     }
@@ -520,8 +522,14 @@ mod tests {
             s.start_right(36);
             s.view();
             s.feed(b"\x1B[5;10r\x1B[?6;7h\x1B[4;20h\x1B[?25l\x1B G\x1B[1;5m", 0);
-            s.feed(b"\x1B[1\"q\x1B)0\x1B.A\x1B+B\x1Bo\x1B~\x1B[2;80Hx\x1B7", 0);
-            s.feed(b"\x1B[4;7;22;25m\x1B(%5\x0E\x1B|\x8F\x1B[3g\x1BH", 0);
+            s.feed(
+                b"\x1B[1\"q\x1B)0\x1B.A\x1B+B\x1Bo\x1B~\x1B[2;80Hx\x8E\x1B7",
+                0,
+            );
+            s.feed(
+                b"\x1B[4;7;22;25m\x1B[\"q\x1B(%5\x0E\x1B|\x8F\x1B[3g\x1BH",
+                0,
+            );
             s.view();
             s.field(SHOWN, 2);
             s.field(ROWS, 280);
@@ -531,19 +539,19 @@ mod tests {
         let fresh = [
             &[36, 1, 1, 0, 1, 36, 0, 0, 0, 0, 1, 0][..],
             &[0, 0, 0, 0, 0, 0, 0, 2, 2, 0, 2, 0],
-            &[1, 1, 0, 0, 0, 0, 0, 0, 0, 0, 2, 2, 0, 2],
+            &[1, 1, 0, 0, 0, 0, 0, 0, 0, 0, 2, 2, 0, 2, 0, 0],
             &[0, 1, 1, 1, 1, 1, 1, 1, 1, 1],
         ]
         .concat();
         let mut after = [
             &[36, 6, 80, 1, 5, 10, 1, 1, 1, 1, 0, 1][..],
-            &[0, 1, 0, 1, 1, 2, 1, 3, 0, 1, 3, 2],
-            &[6, 80, 1, 1, 0, 1, 0, 1, 0, 1, 3, 0, 3, 1],
+            &[0, 1, 0, 1, 0, 2, 1, 3, 0, 1, 3, 2],
+            &[6, 80, 1, 1, 0, 1, 0, 1, 0, 1, 3, 0, 3, 1, 1, 1],
             &[0, 0, 0, 0, 0, 0, 0, 0, 0, 128],
         ]
         .concat();
         let mut expected = [b"S\0V", &fresh[..]].concat();
-        for length in [36, 28, 26] {
+        for length in [36, 29, 30] {
             expected.extend([b'F', 0, length, 0, 0, 0]);
         }
         expected.push(b'V');
@@ -554,6 +562,27 @@ mod tests {
         expected.push(b'V');
         expected.extend(&after);
         assert_eq!(output, expected);
+    }
+
+    #[test]
+    fn saved_protection_and_shift_are_seen() {
+        for (before, fields) in [
+            (&b""[..], [0, 0]),
+            (b"\x8E", [0, 1]),
+            (b"\x8F", [0, 2]),
+            (b"\x1B[1\"q", [1, 0]),
+            (b"\x1B[1\"q\x8F", [1, 2]),
+        ] {
+            let output = answered(|s| {
+                s.start_right(24);
+                s.feed(before, 0);
+                // Saved; then neither.
+                s.feed(b"\x1B7x\x1B[\"q", 0);
+                s.view();
+            });
+            let view = &output[output.len() - VIEW_BYTES..];
+            assert_eq!(view[VIEW_TABS - 2..VIEW_TABS], fields);
+        }
     }
 
     #[test]

@@ -76,6 +76,8 @@ pub struct Saved {
     pub rendition: Rendition,
     pub origin: bool,
     pub sets: Sets,
+    pub protection: bool,
+    pub shift: Option<Shift>,
 }
 
 impl Saved {
@@ -84,6 +86,8 @@ impl Saved {
         rendition: Rendition::PLAIN,
         origin: false,
         sets: Sets::FRESH,
+        protection: false,
+        shift: None,
     };
 }
 

@@ -1,4 +1,5 @@
-//! Cases at the edges, with expectations written by hand from the scope paper.
+//! Cases at the edges, with expectations written by hand from the scope paper
+//! and the requests that are met.
 
 mod common;
 use common::Console;
@@ -187,6 +188,12 @@ fn what_is_not_whole() {
         s.saved.origin = true;
         s.top = 5
     }));
+    for (protection, shift, _) in WRITING {
+        assert!(!broken(&|s| {
+            s.saved.protection = protection;
+            s.saved.shift = shift
+        }));
+    }
     // The parser.
     let control = |mark, parameters: Vec<u32>, intermediates: Vec<u8>| Parser::Control {
         mark,
@@ -746,10 +753,12 @@ fn single_shifts() {
     assert_eq!((c.word(1, 1), c.word(1, 2)), (0x7F | LATIN1, 0x61));
     let c = Console::fed(b"\x8E a");
     assert_eq!((c.word(1, 1), c.word(1, 2)), (0x20, 0x61));
-    // The later shift counts. It is not saved or restored.
+    // The later shift counts. Saving leaves it; restoring brings the saved one,
+    // or none.
     assert_eq!(Console::fed(b"\x8E\x8F").state.shift, Some(Shift::G3));
+    assert_eq!(Console::fed(b"\x8E\x1B7").state.shift, Some(Shift::G2));
     assert_eq!(Console::fed(b"\x8E\x1B7\x1B8").state.shift, Some(Shift::G2));
-    assert_eq!(Console::fed(b"\x1B7\x8E\x1B8").state.shift, Some(Shift::G2));
+    assert_eq!(Console::fed(b"\x1B7\x8E\x1B8").state.shift, None);
 }
 
 #[test]
@@ -1183,12 +1192,13 @@ fn save_and_restore() {
     let c = c.feed(b"\x1B[1\"q\x1B[H\x1B[m\x1B(B\x1B)B\x1B*B\x1B+0\x0F\x1B}\x1B8");
     assert_eq!(c.at(), (5, 7, false));
     assert_eq!((c.state.sets, c.state.rendition), (sets, rendition));
-    // Protection is not part of it.
-    assert!(c.state.protection);
+    // Protection is part of it, and was off.
+    assert!(!c.state.protection);
     // Without saving, the fresh one is restored.
-    let c = Console::fed(b"\x1B[5;7H\x1B[1m\x1B(0\x0E\x1B8");
+    let c = Console::fed(b"\x1B[5;7H\x1B[1m\x1B[1\"q\x1B(0\x0E\x8E\x1B8");
     assert_eq!((c.at(), c.state.sets), ((1, 1, false), Sets::FRESH));
     assert_eq!(c.state.rendition, Rendition::PLAIN);
+    assert_eq!((c.state.protection, c.state.shift), (false, None));
     // Origin is restored, and then the row is held to the margins.
     let c = Console::fed(b"\x1B[?6h\x1B[20;5H\x1B7\x1B[?6l\x1B[6;10r\x1B8");
     assert_eq!(c.at(), (10, 5, false));
@@ -1198,6 +1208,179 @@ fn save_and_restore() {
     let c = Console::fed(b"\x1B[20;5H\x1B7\x1B[6;10r\x1B[?6h\x1B8");
     assert_eq!(c.at(), (20, 5, false));
     assert!(!c.state.origin);
+}
+
+/// ASCII in GL, Supplemental in GR, Special Graphics in G2, Latin-1 in G3.
+const FOUR_SETS: &[u8] = b"\x1B)%5\x1B~\x1B*0\x1B/A";
+
+/// Every protection with every shift, and the bytes that bring it about where
+/// no shift is pending.
+const WRITING: [(bool, Option<Shift>, &[u8]); 6] = [
+    (false, None, b"\x1B[\"q"),
+    (false, Some(Shift::G2), b"\x1B[\"q\x8E"),
+    (false, Some(Shift::G3), b"\x1B[\"q\x8F"),
+    (true, None, b"\x1B[1\"q"),
+    (true, Some(Shift::G2), b"\x1B[1\"q\x8E"),
+    (true, Some(Shift::G3), b"\x1B[1\"q\x8F"),
+];
+
+/// With those sets, the word of the next "q".
+fn next_q(protection: bool, shift: Option<Shift>) -> u16 {
+    let set = match shift {
+        None => 0,
+        Some(Shift::G2) => GRAPHICS,
+        Some(Shift::G3) => LATIN1,
+    };
+    0x71 | set | protected(protection)
+}
+
+fn protected(protection: bool) -> u16 {
+    if protection {
+        PROTECTED
+    } else {
+        0
+    }
+}
+
+#[test]
+fn saving_protection_and_shift() {
+    for (protection, shift, bytes) in WRITING {
+        let c = Console::fed(FOUR_SETS)
+            .feed(b"\x1B[7m\x1B[3;5H")
+            .feed(bytes);
+        let (page, mut state) = (c.page.clone(), c.state.clone());
+        assert_eq!((state.protection, state.shift), (protection, shift));
+        // Nothing changes but what is saved.
+        let c = c.feed(b"\x1B7");
+        state.saved = Saved {
+            cursor: state.cursor,
+            rendition: state.rendition,
+            origin: state.origin,
+            sets: state.sets,
+            protection,
+            shift,
+        };
+        assert_eq!((&c.page, &c.state), (&page, &state));
+        // Restored at once, nothing changes; nor if it is saved again.
+        let c = c.feed(b"\x1B8");
+        assert_eq!((&c.page, &c.state), (&page, &state));
+        let c = c.feed(b"\x1B7\x1B8\x1B8");
+        assert_eq!((&c.page, &c.state), (&page, &state));
+        // The shift is for one byte.
+        let c = c.feed(b"qq");
+        assert_eq!(c.word(3, 5), next_q(protection, shift) | REVERSE);
+        assert_eq!(c.word(3, 6), next_q(protection, None) | REVERSE);
+    }
+}
+
+#[test]
+fn restoring_protection_and_shift() {
+    for (protection, shift, saved) in WRITING {
+        for (protection_now, shift_now, now) in WRITING {
+            // Printed after saving, "x" ends the shift.
+            let mut c = Console::fed(FOUR_SETS).feed(b"\x1B[3;5H").feed(saved);
+            c.more(b"\x1B7\x1B[9;9Hx");
+            c.ask();
+            let mut restored = c.state.clone();
+            restored.cursor = restored.saved.cursor;
+            restored.protection = protection;
+            restored.shift = shift;
+            c.more(now);
+            assert_eq!(
+                (c.state.protection, c.state.shift),
+                (protection_now, shift_now)
+            );
+            let page = c.page.clone();
+            // The same each time, whatever there is now.
+            for between in [&b""[..], b"", now, b"\x1B[24;80H"] {
+                c.more(between);
+                c.more(b"\x1B8");
+                assert_eq!((&c.page, &c.state), (&page, &restored));
+            }
+            // The shift that came back is for one byte.
+            c.more(b"qq");
+            assert_eq!(c.word(3, 5), next_q(protection, shift));
+            assert_eq!(c.word(3, 6), next_q(protection, None));
+            assert_eq!((c.state.protection, c.state.shift), (protection, None));
+            // It is still saved. A byte through GR ends it.
+            c.more(now);
+            c.more(b"\x1B8\xF1q");
+            assert_eq!(c.word(3, 5), 0x71 | SUPPLEMENTAL | protected(protection));
+            assert_eq!(c.word(3, 6), next_q(protection, None));
+            // What is printed before restoring has what there is now.
+            c.more(b"\x1B[5;5H");
+            c.more(now);
+            c.more(b"q\x1B8q");
+            assert_eq!(c.word(5, 5), next_q(protection_now, shift_now));
+            assert_eq!(c.word(3, 5), next_q(protection, shift));
+        }
+    }
+}
+
+#[test]
+fn a_shift_that_came_back_is_pending() {
+    // What is ignored leaves it, and SUB and CAN do; the shifted set decides
+    // on 7F.
+    for left in [
+        &b"\x7F"[..],
+        b"\xA0",
+        b"\xFF",
+        b"\x18",
+        b"\x1B[3",
+        b"\x1B]a",
+    ] {
+        let c = Console::fed(b"\x1B*0\x8E\x1B7x\x1B8").feed(left);
+        assert_eq!(c.state.shift, Some(Shift::G2), "{left:?}");
+        let c = c.feed(b"\x18q");
+        assert_eq!((c.word(1, 1), c.state.shift), (0x71 | GRAPHICS, None));
+    }
+    let c = Console::fed(b"\x1B*0\x8E\x1B7x\x1B8\x1Aqq");
+    assert_eq!(c.word(1, 1), 0x1A);
+    assert_eq!((c.word(1, 2), c.word(1, 3)), (0x71 | GRAPHICS, 0x71));
+    let c = Console::fed(b"\x1B/A\x8F\x1B7x\x1B8\x7Fq");
+    assert_eq!((c.word(1, 1), c.word(1, 2)), (0x7F | LATIN1, 0x71));
+    // 20 ends it; a later shift counts.
+    let c = Console::fed(b"\x8E\x1B7x\x1B8 q");
+    assert_eq!((c.word(1, 1), c.word(1, 2)), (0x20, 0x71));
+    let c = Console::fed(b"\x1B*0\x8E\x1B7x\x1B8\x8F");
+    assert_eq!(c.state.shift, Some(Shift::G3));
+    // With wrap due: the byte goes to the next row, and uses it.
+    let c = due(3).feed(b"\x1B*0\x8E\x1B7x\x1B8");
+    assert_eq!((c.at(), c.state.shift), ((3, 80, true), Some(Shift::G2)));
+    let c = c.feed(b"qq");
+    assert_eq!((c.word(4, 1), c.word(4, 2)), (0x71 | GRAPHICS, 0x71));
+    // Autowrap and origin decide on the cursor, not on these.
+    let c = due(3).feed(b"\x1B[1\"q\x8E\x1B7x\x1B[\"q\x1B[?7l\x1B8");
+    assert_eq!(c.at(), (3, 80, false));
+    assert_eq!((c.state.protection, c.state.shift), (true, Some(Shift::G2)));
+    let c = Console::fed(b"\x1B[?6h\x1B[1\"q\x8F\x1B7x\x1B[\"q\x1B[5;9r\x1B8");
+    assert_eq!(c.at(), (5, 1, false));
+    assert_eq!((c.state.protection, c.state.shift), (true, Some(Shift::G3)));
+}
+
+#[test]
+fn the_fresh_saved_cursor_has_no_protection_and_no_shift() {
+    assert_eq!((Saved::FRESH.protection, Saved::FRESH.shift), (false, None));
+    for (_, _, saved) in WRITING {
+        for (_, _, now) in WRITING {
+            // Never saved; or saved, and then a reset.
+            let never = Console::new();
+            let saving = || Console::fed(saved).feed(b"\x1B7x");
+            let soft = saving().feed(b"\x1B[!p");
+            assert_eq!((soft.state.protection, soft.state.shift), (false, None));
+            let full = saving().feed(b"\x1Bc");
+            assert_eq!((full.state.protection, full.state.shift), (false, None));
+            for mut c in [never, soft, full] {
+                assert_eq!(c.state.saved, Saved::FRESH);
+                c.more(now);
+                c.more(b"\x1B8");
+                assert_eq!((c.state.protection, c.state.shift), (false, None));
+                assert_eq!((c.at(), c.state.saved), ((1, 1, false), Saved::FRESH));
+                c.more(b"q\x1B8q");
+                assert_eq!((c.word(1, 1), c.at()), (0x71, (1, 2, false)));
+            }
+        }
+    }
 }
 
 #[test]

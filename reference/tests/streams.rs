@@ -84,7 +84,7 @@ fn any_word_is_accepted() {
 /// The streams reach what they are for.
 #[test]
 fn streams_reach_the_edges() {
-    let mut seen = [0usize; 20];
+    let mut seen = [0usize; 26];
     for seed in 0..120 {
         let rows = [24, 36, 48][seed as usize % 3];
         let mut c = Console::of(rows);
@@ -94,6 +94,12 @@ fn streams_reach_the_edges() {
             c.more(&[byte]);
             let s = &c.state;
             let inner = s.top > 1 && s.bottom < s.rows;
+            // ESC 8.
+            let escape = Parser::Escape {
+                intermediates: Vec::new(),
+            };
+            let restored = before.parser == escape && byte & 0x7F == b'8';
+            let (had, has) = (before.shift.is_some(), s.shift.is_some());
             let facts = [
                 s.cursor.wrap_due,
                 before.cursor.wrap_due && !s.cursor.wrap_due && s.cursor.column == 2,
@@ -115,6 +121,12 @@ fn streams_reach_the_edges() {
                 matches!(s.parser, Parser::EscapeIgnored),
                 matches!(s.parser, Parser::String),
                 matches!(&s.parser, Parser::Control { dropping: true, .. }),
+                s.saved.protection,
+                s.saved.shift.is_some(),
+                restored && !before.protection && s.protection,
+                restored && before.protection && !s.protection,
+                restored && !had && has,
+                restored && had && !has,
             ];
             for (count, fact) in seen.iter_mut().zip(facts) {
                 *count += fact as usize;

@@ -531,6 +531,48 @@ static void test_cursor(void)
     CHECK(feed(3840, "\033[48;80H", 0) == PANKHOLIM_DONE && cursor_is(PANKHOLIM_DONE, 48, 80, 0, 1));
 }
 
+/* ---- the saved cursor */
+
+static const char *const protections[] = { "\033[0\"q", "\033[1\"q" };
+static const char *const shifts[] = { "", "\216", "\217" };
+
+/* Feeds byte by byte, so that the record alone holds what is between two bytes. */
+static void feed_apart(const char *input)
+{
+    for (; *input != '\0'; input++)
+        CHECK(feed_bytes(1920, input, 1, 0) == PANKHOLIM_DONE);
+}
+
+/* Protection and a pending shift, on or off, come back with ESC 8, whatever they are then; a second time too. */
+static void test_saved_cursor(void)
+{
+    /* a of GL, of Special Graphics in G2, of Latin-1 in G3 */
+    static const uint16_t as[] = { 0x0061, 0x00E1, 0x01E1 };
+    unsigned saved, now, times;
+
+    for (saved = 0; saved < 6; saved++)
+        for (now = 0; now < 6; now++) {
+            unsigned flag = saved / 3 == 1 ? PANKHOLIM_PROTECTED : 0;
+
+            start_well(24);
+            feed_apart("\033*0\033/A\033[5;77H");
+            feed_apart(protections[saved / 3]);
+            feed_apart(shifts[saved % 3]);
+            feed_apart("\0337x\033[H");
+            feed_apart(protections[now / 3]);
+            feed_apart(shifts[now % 3]);
+            for (times = 0; times < 2; times++) {
+                feed_apart("\0338ab");
+                CHECK(reads(1920, 5, 77, (uint16_t)(as[saved % 3] | flag)));
+                CHECK(reads(1920, 5, 78, (uint16_t)('b' | flag)));
+            }
+            feed_apart("\033[?2J");
+            CHECK(reads(1920, 5, 78, (uint16_t)(flag != 0 ? 'b' | flag : PANKHOLIM_BLANK)));
+        }
+}
+
+/* ---- the version */
+
 static void test_version(void)
 {
     CHECK(pankholim_version() == PANKHOLIM_VERSION);
@@ -622,7 +664,7 @@ static void test_copies(void)
 
 /* ---- a record's bytes are determined by its state */
 
-enum { UNUSED = 93, RECORD = 96 };
+enum { UNUSED = 95, RECORD = 96 };
 
 /* Fills the stack below the caller, so that a byte which a call forgets to write is seen. */
 static void fill_stack(int byte)
@@ -637,14 +679,12 @@ static void fill_stack(int byte)
 
 static void set_unused(uint8_t byte)
 {
-    memset((uint8_t *)&record.terminal + UNUSED, byte, RECORD - UNUSED);
+    ((uint8_t *)&record.terminal)[UNUSED] = byte;
 }
 
 static int unused_is(uint8_t byte)
 {
-    const uint8_t *bytes = (const uint8_t *)&record.terminal;
-
-    return bytes[UNUSED] == byte && bytes[UNUSED + 1] == byte && bytes[UNUSED + 2] == byte;
+    return ((const uint8_t *)&record.terminal)[UNUSED] == byte;
 }
 
 /* Starts a record that held `byte`, feeds and asks, on a stack filled with `byte`; at once, or in two calls of each. */
@@ -683,8 +723,8 @@ static void test_bytes_of_a_record(void)
     }
 }
 
-/* The unused bytes are not looked at: kept by a refusal, and 0 after a call that is none. */
-static void test_unused_bytes(void)
+/* The unused byte is not looked at: kept by a refusal, and 0 after a call that is none. */
+static void test_unused_byte(void)
 {
     unsigned byte;
 
@@ -848,12 +888,13 @@ int main(int argc, char **argv)
     test_read();
     test_cells();
     test_cursor();
+    test_saved_cursor();
     test_version();
     test_text();
     test_text_of_every_word();
     test_copies();
     test_bytes_of_a_record();
-    test_unused_bytes();
+    test_unused_byte();
     test_streams();
     for (i = 1; i < argc; i++)
         test_capture(argv[i]);

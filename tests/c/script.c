@@ -126,9 +126,9 @@ static void put_text(void)
     put_bytes(text, length);
 }
 
-/* ---- the record's bytes (crates/pankholim/src/record.rt), which only a test that breaks records needs */
+/* ---- the record's bytes (crates/record/src/lib.rt), which only a test that breaks records needs */
 
-enum { VALUES = 8, TABS = 40, PARSER = 88 };
+enum { VALUES = 8, TABS = 40, PARSER = 90 };
 
 /* Where the script's fields lie, and which are flags. */
 static const struct {
@@ -184,7 +184,7 @@ static const struct {
     { 53, 53 },             /* protection */
     { 68, 73 },             /* G0 to G3, GL, GR */
     { 54, 54 },             /* the pending shift */
-    { 74, 87 },             /* what is saved */
+    { 74, 89 },             /* what is saved */
     { TABS, TABS + 9 },     /* tab flags */
 };
 

@@ -15,7 +15,7 @@ fn captures() -> Vec<(String, Vec<u8>, String)> {
             captures.push((name, fs::read(path).unwrap(), text));
         }
     }
-    assert!(captures.len() >= 13);
+    assert!(captures.len() >= 14);
     captures
 }
 

@@ -67,9 +67,9 @@ fn bytes_are_determined_by_the_state() {
     }
     assert_eq!(parts.to_bytes(), whole.to_bytes());
 
-    // The last three bytes are unused: not looked at, and 0 after a call that is not refused.
+    // The last byte is unused: not looked at, and 0 after a call that is not refused.
     let mut bytes = whole.to_bytes();
-    bytes[93..].fill(0xA5);
+    bytes[95] = 0xA5;
     let mut record = Record::from_bytes(bytes);
     assert_eq!(record.feed(&mut [], b"", &mut []), Err(Refusal::WrongSize));
     assert_eq!(record.to_bytes(), bytes);

@@ -67,7 +67,7 @@ withParser c x = coreFrom (c .rows) (c .cursor) (c .margins) (c .tabs) (c .modes
 
 -- what is saved, with the cursor at another place
 abbrev pub savedAt : Saved → Cursor → Saved
-savedAt s u = record { cursor = u; rendition = s .rendition; origin = s .origin; sets = s .sets }
+savedAt s u = record { cursor = u; rendition = s .rendition; origin = s .origin; sets = s .sets; protected = s .protected; shift = s .shift }
 
 -- one step with this edit
 abbrev pub oneEdit : Core → Edit → Decision

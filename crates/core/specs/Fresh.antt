@@ -17,7 +17,7 @@ abbrev pub freshModes : Modes
 freshModes = record { insert = false; newline = false; origin = false; autowrap = false; shown = true; eightbit = false }
 
 abbrev pub freshSaved : Saved
-freshSaved = record { cursor = place 1 1; rendition = plain; origin = false; sets = freshSets }
+freshSaved = record { cursor = place 1 1; rendition = plain; origin = false; sets = freshSets; protected = false; shift = NoShift }
 
 unfoldable pub freshCore : ℕ → Core
 freshCore r = record {

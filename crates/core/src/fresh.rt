@@ -70,6 +70,8 @@ pub fn fresh_saved() -> Saved
         rendition: plain_rendition(),
         origin: false,
         sets: Sets::fresh(),
+        protected: false,
+        shift: SingleShift::NoShift,
     }
 }
 

@@ -34,6 +34,8 @@ pub struct Saved {
     pub rendition: Rendition,
     pub origin: bool,
     pub sets: Sets,
+    pub protected: bool,
+    pub shift: SingleShift,
 }
 
 pub struct Core {

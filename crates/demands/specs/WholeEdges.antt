@@ -8,7 +8,7 @@ use lib.ListN.{set}
 use Rattle.cells.specs.declared.Rendition.{Rendition}
 use Rattle.cells.specs.declared.CharSet.the-variants.{SpecialGraphics, Latin1}
 use Rattle.device.specs.declared.charsets.Register.the-variants.{G0, G3}
-use Rattle.device.specs.declared.charsets.SingleShift.the-variants.{Ss3}
+use Rattle.device.specs.declared.charsets.SingleShift.the-variants.{Ss2, Ss3}
 use Rattle.device.specs.declared.charsets.Sets.{Sets}
 use Rattle.parser.specs.declared.params.Params.{Params}
 use Rattle.parser.specs.declared.phases.Phase.{Phase}
@@ -69,7 +69,15 @@ savedWrapDue s = savedCursor (s .core .saved .cursor .row) (s .core .saved .curs
 abbrev pub savedOrigin : State → State
 savedOrigin s =
     let v = s .core .saved in
-    onCore (λ c. withSaved c (record { cursor = v .cursor; rendition = v .rendition; origin = true; sets = v .sets })) s
+    let saved : Saved = record {
+      cursor = v .cursor;
+      rendition = v .rendition;
+      origin = true;
+      sets = v .sets;
+      protected = v .protected;
+      shift = v .shift;
+    } in
+    onCore (λ c. withSaved c saved) s
 
 abbrev otherParser : State → Parser → State
 otherParser s q = onCore (λ c. withParser c q) s
@@ -119,7 +127,7 @@ allElse s =
     let drawn : Rendition = record { bold = true; underline = true; blink = true; reverse = true } in
     let sets : Sets = record { g0 = Latin1; g1 = SpecialGraphics; g2 = Latin1; g3 = Latin1; gl = G3; gr = G0 } in
     let modes : Modes = record { insert = true; newline = true; origin = c .modes .origin; autowrap = c .modes .autowrap; shown = false; eightbit = true } in
-    let saved : Saved = record { cursor = c .saved .cursor; rendition = drawn; origin = true; sets = sets } in
+    let saved : Saved = record { cursor = c .saved .cursor; rendition = drawn; origin = true; sets = sets; protected = true; shift = Ss2 } in
     onCore (λ c. coreFrom (c .rows) (c .cursor) (c .margins) noTabs modes drawn true sets Ss3 saved (c .parser)) s
 
 -- ---- the edges, clause by clause

@@ -221,6 +221,18 @@ abbrev pub restored : List Line
 restored = send "\u{1b}[?6h\u{1b}[20;5H\u{1b}7\u{1b}[5;10r\u{1b}8" ∷ cursor 10 5 false ∷ send "\u{1b}[?7h\u{1b}[?6l\u{1b}[2;80Hx\u{1b}7\u{1b}[H\u{1b}8"
     ∷ cursor 2 80 true ∷ send "\u{1b}[?7l\u{1b}8" ∷ cursor 2 80 false ∷ []
 
+-- ESC 7 saves protection, on or off: after ESC 8, selective erase leaves what is written or takes it. A fresh saved cursor has none.
+abbrev pub savedProtection : List Line
+savedProtection = send "\u{1b}[1\"q\u{1b}7\u{1b}[0\"q\u{1b}8A\u{1b}[?2J" ∷ words 1 1 (0x2041 ∷ 0x0020 ∷ [])
+    ∷ send "\u{1b}[!p\u{1b}[1\"q\u{1b}8B" ∷ words 1 1 (0x0042 ∷ [])
+    ∷ send "\u{1b}[H\u{1b}7\u{1b}[1\"q\u{1b}8C\u{1b}[?2J" ∷ words 1 1 (0x0020 ∷ 0x0020 ∷ []) ∷ []
+
+-- ESC 7 saves a pending shift and leaves it pending; ESC 8 brings it back, or its absence.
+abbrev pub savedShift : List Line
+savedShift = send "\u{8e}\u{1b}7a\u{1b}8bc" ∷ words 1 1 (0x0162 ∷ 0x0063 ∷ []) ∷ send "\u{1b}8\u{1b}7d\r" ∷ words 1 1 (0x0164 ∷ 0x0063 ∷ [])
+    ∷ send "\u{1b}7\u{8f}\u{1b}8e" ∷ words 1 1 (0x0065 ∷ 0x0063 ∷ [])
+    ∷ send "\u{8e}\u{1b}7\u{1b}[!p\u{8f}\u{1b}8f" ∷ words 1 1 (0x0066 ∷ 0x0063 ∷ []) ∷ []
+
 -- A mark not in first place, three intermediates, a digit after an intermediate: ignored through the final.
 abbrev pub spoilt : List Line
 spoilt = send "\u{1b}[1?JA\u{1b}[!!!pB\u{1b}[!0pC\u{1b}(((0D" ∷ text 1 1 "ABCD " ∷ []
@@ -243,7 +255,8 @@ roomLeft = query "\u{1b}[5n\u{1b}[6nA" 9 3 7 "\u{1b}[0n" ∷ query "nB" 6 0 2 "\
 abbrev pub table : List (List Line)
 table =
     p1 ∷ p2 ∷ p3 ∷ p4 ∷ p5 ∷ p6a ∷ p6b ∷ p7a ∷ p7b ∷ p8 ∷ p9 ∷ p10
-    ∷ edgeOff ∷ edgeOn ∷ cutBetweenCalls ∷ extendedReport ∷ stopsBefore ∷ scrolled ∷ selective ∷ restored ∷ spoilt ∷ manyParameters ∷ resetRules ∷ roomLeft
+    ∷ edgeOff ∷ edgeOn ∷ cutBetweenCalls ∷ extendedReport ∷ stopsBefore ∷ scrolled ∷ selective ∷ restored ∷ savedProtection ∷ savedShift
+    ∷ spoilt ∷ manyParameters ∷ resetRules ∷ roomLeft
     ∷ []
 
 abbrev pub allHold : List (List Line) → Bool

@@ -23,7 +23,9 @@ abbrev pub setBytes : Sets → List ℕ
 setBytes s = setNumber (s .g0) ∷ setNumber (s .g1) ∷ setNumber (s .g2) ∷ setNumber (s .g3) ∷ registerNumber (s .gl) ∷ registerNumber (s .gr) ∷ []
 
 abbrev pub savedBytes : Saved → List ℕ
-savedBytes s = cursorBytes (s .cursor) ++ renditionBytes (s .rendition) ++ (bit (s .origin) ∷ []) ++ setBytes (s .sets)
+savedBytes s =
+    cursorBytes (s .cursor) ++ renditionBytes (s .rendition) ++ (bit (s .origin) ∷ []) ++ setBytes (s .sets)
+    ++ (bit (s .protected) ∷ []) ++ (shiftNumber (s .shift) ∷ [])
 
 -- R, the cursor, T, B, the modes
 abbrev pub placeBytes : Core → List ℕ

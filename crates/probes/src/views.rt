@@ -78,10 +78,13 @@ fn put_sets(out: &mut [u8], at: usize, sets: Sets) -> usize
 fn put_saved(out: &mut [u8], at: usize, saved: Saved) -> usize
     ensures { λ r. ⌜ PutAt (now (out .entry)) at (views.savedBytes saved) (now (out .exit)) r ⌝ }
 {
+    let shift = saved.shift;
     let rendition = put_cursor(out, at, saved.cursor);
     let origin = put_rendition(out, rendition, saved.rendition);
     let sets = put_flag(out, origin, saved.origin);
-    put_sets(out, sets, saved.sets)
+    let protection = put_sets(out, sets, saved.sets);
+    let shifted = put_flag(out, protection, saved.protected);
+    put(out, shifted, shift_number(shift))
 }
 
 fn put_tabs(out: &mut [u8], at: usize, tabs: Tabs) -> usize

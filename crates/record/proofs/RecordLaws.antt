@@ -1,8 +1,7 @@
 -- A state's record holds that state again, and so does the record that a call leaves.
--- The unused bytes are 0 in a state's record, and no part of the state of any.
+-- The unused byte is 0 in a state's record, and no part of the state of any.
 use mathlib.Core.Path.{_≡_, refl, sym, ap, _∙_}
 use mathlib.Core.Bool.{Bool, true, false, cond}
-use mathlib.Core.List.{List, [], _∷_}
 use Prim.Native.Nat.{ℕ}
 use lib.Dec.{ltb}
 use Rattle.cells.specs.Cells.{setNumber, setOf}
@@ -99,11 +98,11 @@ pub state-back : (s : State) → stateOf (recordOf s) ≡ s
 unfolding stateOf recordOf
 state-back s = λ i. record { core = (ap (coreOf (recordOf s)) (rows-back s) ∙ core-back s) i; tracked = s .tracked }
 
--- ---- the unused bytes
+-- ---- the unused byte
 
--- a record with others
-abbrev withUnused : Terminal → List ℕ → Terminal
-withUnused t bytes = record {
+-- a record with another
+abbrev withUnused : Terminal → ℕ → Terminal
+withUnused t byte = record {
   changed = t .changed;
   values = t .values;
   tabs = t .tabs;
@@ -118,14 +117,14 @@ withUnused t bytes = record {
   sets = t .sets;
   saved = t .saved;
   parser = t .parser;
-  unused = bytes;
+  unused = byte;
 }
 
-pub unused-ignored : (t : Terminal) (bytes : List ℕ) → stateOf (withUnused t bytes) ≡ stateOf t
+pub unused-ignored : (t : Terminal) (byte : ℕ) → stateOf (withUnused t byte) ≡ stateOf t
 unfolding stateOf coreOf named
-unused-ignored t bytes = refl
+unused-ignored t byte = refl
 
-pub unused-zero : (s : State) → recordOf s .unused ≡ 0 ∷ 0 ∷ 0 ∷ []
+pub unused-zero : (s : State) → recordOf s .unused ≡ 0
 unfolding recordOf
 unused-zero s = refl
 

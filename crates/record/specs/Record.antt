@@ -3,7 +3,6 @@ use mathlib.Core.Bool.{Bool, cond, _&&_}
 use mathlib.Core.List.{List}
 use Prim.Native.Nat.{ℕ}
 use lib.Dec.{ltb}
-use lib.ListN.{replicate}
 use Rattle.cells.specs.Cells.{setNumber, setOf}
 use Rattle.cells.specs.declared.Rendition.{Rendition}
 use Rattle.device.specs.declared.charsets.Sets.{Sets}
@@ -63,6 +62,8 @@ savedRecord s = record {
   rendition = renditionRecord (s .rendition);
   origin = flagNumber (s .origin);
   sets = setsRecord (s .sets);
+  protected = flagNumber (s .protected);
+  shift = shiftNumber (s .shift);
 }
 
 abbrev pub parserRecord : Parser → ParserRecord
@@ -90,7 +91,7 @@ recordOf s = record {
   sets = setsRecord (s .core .sets);
   saved = savedRecord (s .core .saved);
   parser = parserRecord (s .core .parser);
-  unused = replicate 3 0;
+  unused = 0;
 }
 
 -- ---- the state of a record
@@ -132,6 +133,8 @@ savedOf s = record {
   rendition = renditionOf (s .rendition);
   origin = isOn (s .origin);
   sets = setsOf (s .sets);
+  protected = isOn (s .protected);
+  shift = shiftOf (s .shift);
 }
 
 abbrev pub parserOf : ParserRecord → List ℕ → Parser
@@ -170,7 +173,13 @@ abbrev pub setsNamed : SetsRecord → Bool
 setsNamed s = ltb (s .g0) 4 && ltb (s .g1) 4 && ltb (s .g2) 4 && ltb (s .g3) 4 && ltb (s .gl) 4 && ltb (s .gr) 4
 
 abbrev pub savedNamed : SavedRecord → Bool
-savedNamed s = ltb (s .cursor .wrap) 2 && renditionNamed (s .rendition) && ltb (s .origin) 2 && setsNamed (s .sets)
+savedNamed s =
+    ltb (s .cursor .wrap) 2
+    && renditionNamed (s .rendition)
+    && ltb (s .origin) 2
+    && setsNamed (s .sets)
+    && ltb (s .protected) 2
+    && ltb (s .shift) 3
 
 unfoldable pub named : Terminal → Bool
 named t =

@@ -77,11 +77,14 @@ fn sets_record(sets: Sets) -> SetsRecord
 fn saved_record(saved: Saved) -> SavedRecord
     ensures { λ r. ⌜ r ≡ records.savedRecord saved ⌝ }
 {
+    let shift = saved.shift;
     SavedRecord {
         cursor: cursor_record(saved.cursor),
         rendition: rendition_record(saved.rendition),
         origin: flag_number(saved.origin),
         sets: sets_record(saved.sets),
+        protected: flag_number(saved.protected),
+        shift: shift_number(shift),
     }
 }
 
@@ -110,7 +113,6 @@ pub fn record_of(state: State) -> Terminal
     let tabs = stops.flags;
     let margins = core.margins;
     let shift = core.shift;
-    let unused = [0; 3];
     Terminal {
         changed: state.tracked.changed,
         values,
@@ -126,6 +128,6 @@ pub fn record_of(state: State) -> Terminal
         sets: sets_record(core.sets),
         saved: saved_record(core.saved),
         parser: parser_record(parser),
-        unused,
+        unused: 0,
     }
 }

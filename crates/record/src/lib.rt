@@ -44,6 +44,8 @@ pub struct SavedRecord {
     pub rendition: RenditionRecord,
     pub origin: u8,
     pub sets: SetsRecord,
+    pub protected: u8,
+    pub shift: u8,
 }
 
 #[repr(C)]
@@ -71,6 +73,6 @@ pub struct Terminal {
     pub sets: SetsRecord,
     pub saved: SavedRecord,
     pub parser: ParserRecord,
-    // The rest of the 96 bytes: written 0, and not looked at.
-    pub unused: [u8; 3],
+    // The last of the 96 bytes: written 0, and not looked at.
+    pub unused: u8,
 }

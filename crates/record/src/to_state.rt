@@ -81,6 +81,8 @@ fn saved_of(saved: SavedRecord) -> Saved
         rendition: rendition_of(saved.rendition),
         origin: is_on(saved.origin),
         sets: sets_of(saved.sets),
+        protected: is_on(saved.protected),
+        shift: shift_of(saved.shift),
     }
 }
 
@@ -160,7 +162,12 @@ fn saved_named(saved: SavedRecord) -> bool
     let cursor = saved.cursor;
     let rendition = rendition_named(saved.rendition);
     let sets = sets_named(saved.sets);
-    (cursor.wrap < 2) & rendition & (saved.origin < 2) & sets
+    (cursor.wrap < 2)
+        & rendition
+        & (saved.origin < 2)
+        & sets
+        & (saved.protected < 2)
+        & (saved.shift < 3)
 }
 
 fn named(terminal: Terminal) -> bool

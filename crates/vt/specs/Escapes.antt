@@ -16,20 +16,24 @@ use Rattle.device.specs.Cursor.{place, restore}
 use Rattle.core.specs.Fresh.{freshCore}
 use Rattle.core.specs.Geometry.{firstRow, lastRow}
 use Rattle.core.specs.Modes.{withOrigin, withEightbit}
-use Rattle.core.specs.Effects.{withCursor, withMargins, withModes, withRendition, withSets, withSaved, oneEdit, unedited}
+use Rattle.core.specs.Effects.{withCursor, withMargins, withModes, withRendition, withProtected, withSets, withShift, withSaved, oneEdit, unedited}
 
 -- ---- ESC 7 and ESC 8 (DECSC, DECRC)
 
 abbrev pub savedOf : Core → Saved
-savedOf c = record { cursor = c .cursor; rendition = c .rendition; origin = c .modes .origin; sets = c .sets }
+savedOf c = record { cursor = c .cursor; rendition = c .rendition; origin = c .modes .origin; sets = c .sets; protected = c .protected; shift = c .shift }
 
 abbrev pub saveCursor : Core → Decision
 saveCursor c = unedited (withSaved c (savedOf c))
 
+-- how characters are written: rendition, sets, protection and shift, their absence too
+abbrev pub withWriting : Core → Saved → Core
+withWriting c s = withShift (withProtected (withSets (withRendition c (s .rendition)) (s .sets)) (s .protected)) (s .shift)
+
 -- the row is held to T and B if origin is then on
 abbrev pub restoredFrom : Core → Saved → Core
 restoredFrom c s =
-    let d = withModes (withRendition (withSets c (s .sets)) (s .rendition)) (withOrigin (c .modes) (s .origin)) in
+    let d = withModes (withWriting c s) (withOrigin (c .modes) (s .origin)) in
     withCursor d (restore (s .cursor) (firstRow d) (lastRow d) (d .modes .autowrap))
 
 abbrev pub restoreCursor : Core → Decision

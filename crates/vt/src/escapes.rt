@@ -8,6 +8,7 @@ use core::Margins;
 use core::Saved;
 use core::effects::one_edit;
 use core::effects::unedited;
+use core::effects::with_shift;
 use core::fresh::fresh_core;
 use core::fresh::fresh_cursor;
 use core::geometry::first_row;
@@ -26,30 +27,35 @@ fn save_cursor(mut core: Core) -> Decision
     let cursor = core.cursor;
     let rendition = core.rendition;
     let sets = core.sets;
+    let shift = core.shift;
     let saved = Saved {
         cursor,
         rendition,
         origin: core.modes.origin,
         sets,
+        protected: core.protected,
+        shift,
     };
     core.saved = saved;
     unedited(core)
 }
 
-// The row is held to T and B if origin is then on.
+// The row is held to T and B if origin is then on. Protection that was off and a shift that was none come back too.
 pub fn restore_from(mut core: Core, saved: Saved) -> Core
     ensures { λ r. ⌜ r ≡ escapes.restoredFrom core saved ⌝ }
 {
     let cursor = saved.cursor;
     let rendition = saved.rendition;
     let sets = saved.sets;
-    core.sets = sets;
+    let shift = saved.shift;
     core.rendition = rendition;
     core.modes.origin = saved.origin;
+    core.sets = sets;
+    core.protected = saved.protected;
     let top = first_row(core);
     let bottom = last_row(core);
     core.cursor = cursor.restore(top, bottom, core.modes.autowrap);
-    core
+    with_shift(core, shift)
 }
 
 // DECRC.

@@ -4,6 +4,7 @@ pub mod SoundMoves
 pub mod SoundPrinting
 pub mod SoundControls
 pub mod SoundEscapes
+pub mod SavedLaws
 pub mod SoundSequences
 pub mod SoundParser
 pub mod Sound
