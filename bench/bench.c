@@ -229,6 +229,106 @@ static void measure_scrolls(void)
     printf("\n");
 }
 
+/* ---- one fill or copy of the whole page: two sequences in turn, so that every row changes, again and again in a call */
+
+struct rectangles {
+    const char *name;
+    /* The two in turn, and the same with one cell, which tells what reading a sequence costs. */
+    const char *whole[2], *one[2];
+    void (*peer)(int turn);
+};
+
+static void fill_by_memset(int turn)
+{
+    memset(page, 'A' + turn, sizeof page);
+}
+
+static void copy_by_memmove(int turn)
+{
+    uint16_t *lower = page + COLUMNS;
+
+    memmove(turn == 0 ? lower : page, turn == 0 ? page : lower, (ROWS - 1) * COLUMNS * sizeof page[0]);
+}
+
+static const struct rectangles rectangles[] = {
+    { "fill", { "\033[65;;;;$x", "\033[66;;;;$x" }, { "\033[65;;;1;1$x", "\033[66;;;1;1$x" }, fill_by_memset },
+    { "copy", { "\033[;;23;;;2$v", "\033[2;;;;;1$v" }, { "\033[;;1;1;;2$v", "\033[2;;2;1;;1$v" }, copy_by_memmove },
+};
+
+static void rectangles_ours(const char *const sequences[2])
+{
+    static uint8_t bytes[SCROLLS * 32];
+    size_t length = 0;
+    int i;
+
+    for (i = 0; i < SCROLLS; i++) {
+        const char *sequence = sequences[i % 2];
+
+        memcpy(bytes + length, sequence, strlen(sequence));
+        length += strlen(sequence);
+    }
+    feed_terminal(bytes, length);
+}
+
+static void rectangles_by(void (*peer)(int))
+{
+    int i;
+
+    for (i = 0; i < SCROLLS; i++) {
+        peer(i % 2);
+        __asm__ volatile("" : : "r"(page) : "memory");
+    }
+}
+
+/* The median time of a call, or of the peer, each from the drawn page. */
+static double time_rectangles(const struct rectangles *kind, const char *const sequences[2])
+{
+    static double times[TIMINGS];
+    int i;
+
+    for (i = 0; i < TIMINGS; i++) {
+        double from;
+
+        memcpy(page, drawn, sizeof page);
+        from = now();
+        if (sequences != NULL)
+            rectangles_ours(sequences);
+        else
+            rectangles_by(kind->peer);
+        times[i] = now() - from;
+    }
+    qsort(times, TIMINGS, sizeof times[0], by_size);
+    return times[TIMINGS / 2] / SCROLLS;
+}
+
+static void measure_rectangle(const struct rectangles *kind)
+{
+    struct times whole = { { 0 }, 0 }, one = { { 0 }, 0 }, peer = { { 0 }, 0 };
+
+    while (whole.rounds < options.rounds) {
+        whole.all[whole.rounds++] = time_rectangles(kind, kind->whole);
+        one.all[one.rounds++] = time_rectangles(kind, kind->one);
+        peer.all[peer.rounds++] = time_rectangles(kind, NULL);
+    }
+    sort_times(&whole);
+    sort_times(&one);
+    sort_times(&peer);
+    printf("%-8s %9.1f %9.1f %9.1f %9.2f %9.2f\n", kind->name, median(&whole), median(&one), median(&peer),
+           (median(&whole) - median(&one)) / median(&peer), median(&whole) / median(&peer));
+}
+
+static void measure_rectangles(void)
+{
+    size_t i;
+
+    printf("One fill and one copy of the whole page (a copy: of all rows but one), nanoseconds (median of %u rounds of\n%d times %d); the ratios: without and with the reading of the sequence\n\n",
+           options.rounds, TIMINGS, SCROLLS);
+    printf("%-8s %9s %9s %9s %9s %9s\n", "", "page", "one cell", "peer", "the page", "all");
+    for (i = 0; i < sizeof rectangles / sizeof rectangles[0]; i++)
+        measure_rectangle(&rectangles[i]);
+    printf("\n");
+}
+
 /* ---- memory */
 
 static void measure_memory(uint8_t *bytes)
@@ -262,6 +362,7 @@ static int tables(void)
         return 1;
     same = measure_streams(bytes);
     measure_scrolls();
+    measure_rectangles();
     measure_memory(bytes);
     free(bytes);
     return same ? 0 : 1;

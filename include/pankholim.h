@@ -20,8 +20,8 @@
  * - A record may hold any bytes. One that is not whole is refused with PANKHOLIM_BROKEN: all zero bytes always,
  *   and what an unrefused start, feeding or asking left never. It holds no pointers, so a copy of it, at any
  *   address, is a record for a copy of its page.
- * - A record's last byte is unused. No call looks at it, and an unrefused start, feeding or asking writes it 0;
- *   so what these leave are the same 96 bytes wherever the state is the same.
+ * - Every byte of a record is a field's, so what an unrefused start, feeding or asking leaves are the same 96 bytes
+ *   wherever the state is the same.
  * - Cells of a page may hold any word.
  * - Answers 1, 2 and 4 are refusals; they leave what was lent, but for what is said at the call. 1 is looked
  *   at before 2, and 2 before 4.
@@ -39,7 +39,7 @@ extern "C" {
 
 /* The version of this header. pankholim_version is that of the library, as one number. */
 #define PANKHOLIM_VERSION_MAJOR 0
-#define PANKHOLIM_VERSION_MINOR 2
+#define PANKHOLIM_VERSION_MINOR 3
 #define PANKHOLIM_VERSION_PATCH 0
 #define PANKHOLIM_VERSION \
     (PANKHOLIM_VERSION_MAJOR * 65536 + PANKHOLIM_VERSION_MINOR * 256 + PANKHOLIM_VERSION_PATCH)
@@ -109,8 +109,8 @@ uint8_t pankholim_start(pankholim_terminal *terminal, size_t rows, uint16_t *pag
  * 1: the record is not whole. 2: `cells` does not fit the record. Both set *read and *replied to 0, and
  *    leave record, page and reply. 2 is also answered to empty input.
  *
- * Empty input is answered 0 with 0 read, 0 replied and nothing changed but the unused byte. Where no reply
- * falls due, no room is needed.
+ * Empty input is answered 0 with 0 read, 0 replied and nothing changed. Where no reply falls due, no room is
+ * needed.
  */
 uint8_t pankholim_feed(pankholim_terminal *terminal, uint16_t *page, size_t cells, const uint8_t *input,
                        size_t length, uint8_t *reply, size_t room, size_t *read, size_t *replied);

@@ -51,6 +51,44 @@ impl Rendition {
         blink: false,
         reverse: false,
     };
+
+    /// After one value of CSI m or of a change of attributes; none if it is not
+    /// listed.
+    pub fn selected(self, value: u32) -> Option<Rendition> {
+        let mut after = self;
+        match value {
+            0 => after = Rendition::PLAIN,
+            1 => after.bold = true,
+            4 => after.underline = true,
+            5 => after.blink = true,
+            7 => after.reverse = true,
+            22 => after.bold = false,
+            24 => after.underline = false,
+            25 => after.blink = false,
+            27 => after.reverse = false,
+            _ => return None,
+        }
+        Some(after)
+    }
+
+    /// After one value of a reversal of attributes; none if it is not listed.
+    pub fn reversed(self, value: u32) -> Option<Rendition> {
+        let mut after = self;
+        match value {
+            0 => {
+                after.bold = !self.bold;
+                after.underline = !self.underline;
+                after.blink = !self.blink;
+                after.reverse = !self.reverse;
+            }
+            1 => after.bold = !self.bold,
+            4 => after.underline = !self.underline,
+            5 => after.blink = !self.blink,
+            7 => after.reverse = !self.reverse,
+            _ => return None,
+        }
+        Some(after)
+    }
 }
 
 /// A cell with every bit of its word in a field of its own, so that two cells
@@ -103,6 +141,20 @@ impl Cell {
             protected,
             unused: 0,
         }
+    }
+
+    pub fn rendition(self) -> Rendition {
+        Rendition {
+            bold: self.bold,
+            underline: self.underline,
+            blink: self.blink,
+            reverse: self.reverse,
+        }
+    }
+
+    /// The cell written anew with another rendition; protected or not.
+    pub fn with_rendition(self, rendition: Rendition) -> Cell {
+        Cell::new(self.code, self.set, rendition, self.protected)
     }
 
     /// What selective erase makes of the cell: a protected one is skipped; in
@@ -173,6 +225,40 @@ mod tests {
         }
         assert_eq!(Cell::BLANK.word(), BLANK_WORD);
         assert_eq!(Cell::of_word(BLANK_WORD), Cell::BLANK);
+    }
+
+    #[test]
+    fn every_value_on_every_word() {
+        // The flags that a value names: bold, underline, blink, reverse.
+        let flags = |value: u32| match value {
+            0 => 0x1E00,
+            1 | 22 => 0x0200,
+            4 | 24 => 0x0400,
+            5 | 25 => 0x0800,
+            7 | 27 => 0x1000,
+            _ => 0,
+        };
+        for word in 0..=0xFFFFu16 {
+            let cell = Cell::of_word(word);
+            let written = word & 0x3FFF;
+            for value in (0..=30).chain([9_999]) {
+                let named = flags(value);
+                let restyled = |after: Option<Rendition>| {
+                    after.map(|rendition| cell.with_rendition(rendition).word())
+                };
+                let selected = match value {
+                    1 | 4 | 5 | 7 => Some(written | named),
+                    _ if named != 0 => Some(written & !named),
+                    _ => None,
+                };
+                assert_eq!(restyled(cell.rendition().selected(value)), selected);
+                let reversed = match value {
+                    0 | 1 | 4 | 5 | 7 => Some(written ^ named),
+                    _ => None,
+                };
+                assert_eq!(restyled(cell.rendition().reversed(value)), reversed);
+            }
+        }
     }
 
     #[test]

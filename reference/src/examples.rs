@@ -17,7 +17,7 @@ macro_rules! files {
 
 /// Every file in the directory of examples: its name without the ending, and
 /// its text.
-pub const FILES: [(&str, &str); 23] = files![
+pub const FILES: [(&str, &str); 24] = files![
     "calls",
     "changed-rows",
     "controls",
@@ -27,6 +27,7 @@ pub const FILES: [(&str, &str); 23] = files![
     "margins",
     "origin",
     "parameters",
+    "rectangles",
     "rendition",
     "replies",
     "resets",

@@ -4,7 +4,7 @@ use crate::cell::{Cell, Rendition, Set};
 use crate::page::{Page, COLUMNS};
 use crate::parser::Event;
 use crate::reply;
-use crate::state::{Cursor, Saved, Sets, Shift, Slot, State};
+use crate::state::{Cursor, Extent, Saved, Sets, Shift, Slot, State};
 
 /// All that a step changes.
 #[derive(Clone, PartialEq, Debug)]
@@ -86,16 +86,24 @@ pub fn take(before: &Scene, byte: u8) -> (Scene, Vec<u8>) {
 
 /// The code and set that a byte prints, or none if it is ignored.
 fn sign(state: &State, byte: u8) -> Option<(u8, Set)> {
-    let slot = if byte >= 0xA0 {
-        state.sets.gr
-    } else {
-        match state.shift {
-            Some(Shift::G2) => Slot::G2,
-            Some(Shift::G3) => Slot::G3,
-            None => state.sets.gl,
-        }
+    match state.shift {
+        Some(Shift::G2) if byte < 0x80 => sign_in(state.sets.g2, byte),
+        Some(Shift::G3) if byte < 0x80 => sign_in(state.sets.g3, byte),
+        _ => unshifted_sign(state, byte),
+    }
+}
+
+/// The same through GL or GR, whatever shift is pending.
+pub(crate) fn unshifted_sign(state: &State, byte: u8) -> Option<(u8, Set)> {
+    let slot = match byte {
+        0x20..=0x7F => state.sets.gl,
+        0xA0..=0xFF => state.sets.gr,
+        _ => return None,
     };
-    let set = state.sets.in_slot(slot);
+    sign_in(state.sets.in_slot(slot), byte)
+}
+
+fn sign_in(set: Set, byte: u8) -> Option<(u8, Set)> {
     let code = byte & 0x7F;
     if set.has_96() {
         return Some((code, set));
@@ -424,6 +432,11 @@ impl Scene {
             (None, b"\"", b'q') => self.select_protection(selector),
             (None, b"", b'r') => self.set_margins(value(0), value(1)),
             (None, b"!", b'p') => self.soft_reset(),
+            (None, b"$", b'z' | b'{' | b'x' | b'v' | b'r' | b't') => {
+                self.rectangle_function(last, parameters);
+                Due::Kept
+            }
+            (None, b"*", b'x') => self.select_extent(selector),
             // c and n only reply.
             _ => Due::Kept,
         }
@@ -569,18 +582,8 @@ impl Scene {
     }
 
     fn select_rendition(&mut self, selector: u32) {
-        let rendition = &mut self.state.rendition;
-        match selector {
-            0 => *rendition = Rendition::PLAIN,
-            1 => rendition.bold = true,
-            4 => rendition.underline = true,
-            5 => rendition.blink = true,
-            7 => rendition.reverse = true,
-            22 => rendition.bold = false,
-            24 => rendition.underline = false,
-            25 => rendition.blink = false,
-            27 => rendition.reverse = false,
-            _ => {}
+        if let Some(rendition) = self.state.rendition.selected(selector) {
+            self.state.rendition = rendition;
         }
     }
 
@@ -588,6 +591,15 @@ impl Scene {
         match selector {
             1 => self.state.protection = true,
             0 | 2 => self.state.protection = false,
+            _ => {}
+        }
+        Due::Kept
+    }
+
+    fn select_extent(&mut self, selector: usize) -> Due {
+        match selector {
+            0 | 1 => self.state.extent = Extent::Stream,
+            2 => self.state.extent = Extent::Rectangle,
             _ => {}
         }
         Due::Kept

@@ -60,6 +60,7 @@ enum Kind {
     Saves,
     Resets,
     Sets,
+    Rectangles,
     Queries,
     Strings,
     Unlisted,
@@ -77,10 +78,11 @@ enum Kind {
     SaveScene,
     OriginScene,
     EchoScene,
+    RectangleScene,
 }
 
 /// Every kind, with its usual weight.
-const KINDS: [(Kind, usize); 31] = [
+const KINDS: [(Kind, usize); 33] = [
     (Kind::Text, 30),
     (Kind::EdgeText, 15),
     (Kind::Controls, 15),
@@ -95,6 +97,7 @@ const KINDS: [(Kind, usize); 31] = [
     (Kind::Saves, 6),
     (Kind::Resets, 1),
     (Kind::Sets, 8),
+    (Kind::Rectangles, 14),
     (Kind::Queries, 6),
     (Kind::Strings, 4),
     (Kind::Unlisted, 8),
@@ -109,9 +112,10 @@ const KINDS: [(Kind, usize); 31] = [
     (Kind::ProtectScene, 6),
     (Kind::WrapScene, 8),
     (Kind::ShiftScene, 5),
-    (Kind::SaveScene, 8),
+    (Kind::SaveScene, 10),
     (Kind::OriginScene, 5),
     (Kind::EchoScene, 2),
+    (Kind::RectangleScene, 8),
 ];
 
 /// The weights for a seed: some kinds not at all, some seldom, one to three
@@ -220,6 +224,7 @@ impl Writer {
             }
             Kind::Resets => self.resets(),
             Kind::Sets => self.sets(),
+            Kind::Rectangles => self.rectangles(),
             Kind::Queries => self.queries(),
             Kind::Strings => self.strings(),
             Kind::Unlisted => self.unlisted(),
@@ -242,6 +247,7 @@ impl Writer {
             Kind::SaveScene => self.save_scene(),
             Kind::OriginScene => self.origin_scene(),
             Kind::EchoScene => self.echo_scene(),
+            Kind::RectangleScene => self.rectangle_scene(),
         }
     }
 
@@ -346,7 +352,7 @@ impl Writer {
 
     /// Any listed function, well formed.
     fn any_listed(&mut self) {
-        match self.random.below(20) {
+        match self.random.below(22) {
             0..=3 => self.moves(),
             4 | 5 => self.erases(),
             6 | 7 => self.edits(),
@@ -368,6 +374,7 @@ impl Writer {
             16 if self.random.percent(30) => self.resets(),
             17 => self.unlisted(),
             18 => self.control(),
+            19 | 20 => self.rectangles(),
             _ => self.sets(),
         }
     }
@@ -551,6 +558,106 @@ impl Writer {
         }
     }
 
+    /// One of the functions on rectangles, or the extent.
+    fn rectangles(&mut self) {
+        let edges = self.edges();
+        match self.random.below(12) {
+            0 | 1 => self.csi(&edges, "$z"),
+            2 | 3 => self.csi(&edges, "${"),
+            4 | 5 => self.fill(&edges),
+            6 | 7 => {
+                let place = self.edges();
+                self.copy(&edges, &place);
+            }
+            8 | 9 => self.restyle(&edges),
+            _ => self.extent(),
+        }
+    }
+
+    /// Four edges, or fewer: any, at the page's, across its middle, or small.
+    /// Most make a rectangle.
+    fn edges(&mut self) -> String {
+        let [top, left, bottom, right] = match self.random.below(9) {
+            0 => return self.any_edges(),
+            1 | 2 => [
+                self.random.pick(&[0, 0, 1, 1, 2, 5, 23, 24, 25]),
+                self.random.pick(&[0, 0, 1, 1, 2, 40, 79, 80]),
+                self.random
+                    .pick(&[0, 0, 1, 2, 10, 23, 24, 25, 36, 48, 49, 9_999]),
+                self.random.pick(&[0, 0, 1, 2, 40, 79, 80, 81, 9_999]),
+            ],
+            3 => {
+                let (top, left) = (self.random.between(1, 20), self.random.between(1, 60));
+                let bottom = self.random.between(top, 50);
+                [top, left, bottom, self.random.between(left, 82)]
+            }
+            _ => {
+                let top = self.random.between(1, 26);
+                let left = self.random.pick(&[1, 1, 2, 5, 20, 38, 40, 70, 76, 79]);
+                let (height, width) = (self.random.below(4), self.random.below(12));
+                [top, left, top + height, left + width]
+            }
+        };
+        format!("{top};{left};{bottom};{right}")
+    }
+
+    fn any_edges(&mut self) -> String {
+        let count = self.random.between(0, 4);
+        let list: Vec<&str> = (0..count).map(|_| self.number()).collect();
+        list.join(";")
+    }
+
+    /// Mostly with a code that is printed.
+    fn fill(&mut self, edges: &str) {
+        let code = match self.random.below(8) {
+            0 => self.random.pick(&[
+                0, 10, 31, 127, 128, 155, 159, 160, 255, 256, 257, 288, 9_999,
+            ]),
+            1 => self.random.pick(&[32, 33, 126, 127, 160, 161, 254, 255]),
+            2 => self.random.between(160, 255),
+            3 => self.random.between(95, 126),
+            _ => self.random.between(32, 126),
+        };
+        self.csi(&format!("{code};{edges}"), "$x");
+    }
+
+    /// The place's first two numbers are the destination's.
+    fn copy(&mut self, edges: &str, place: &str) {
+        let (from, to) = match self.random.percent(85) {
+            true => (self.random.pick(&["", "1"]), self.random.pick(&["", "1"])),
+            false => (self.number(), self.number()),
+        };
+        let edges = format!("{edges}{}", ";".repeat(3 - edges.matches(';').count()));
+        let place: Vec<&str> = place.split(';').chain(["", ""]).take(2).collect();
+        let end = match to {
+            "" => String::new(),
+            _ => format!(";{to}"),
+        };
+        self.csi(&format!("{edges};{from};{}{end}", place.join(";")), "$v");
+    }
+
+    fn restyle(&mut self, edges: &str) {
+        let own = [
+            "0", "", "1", "4", "5", "7", "1", "4", "5", "7", "22", "24", "25", "27", "2", "8",
+        ];
+        let count = self.random.pick(&[0, 1, 1, 1, 2, 3, 6, 12, 13, 14]);
+        let list: Vec<String> = (0..count).map(|_| self.own_number(&own)).collect();
+        let last = self.random.pick(&["$r", "$t"]);
+        let separators = match count {
+            0 => 0,
+            _ => 4 - edges.matches(';').count(),
+        };
+        let parameters = format!("{edges}{}{}", ";".repeat(separators), list.join(";"));
+        self.csi(&parameters, last);
+    }
+
+    fn extent(&mut self) {
+        let selector = self
+            .random
+            .pick(&["2", "2", "2", "1", "0", "", "3", "2;1", "?2"]);
+        self.csi(selector, "*x");
+    }
+
     fn queries(&mut self) {
         match self.random.below(8) {
             0 => {
@@ -653,7 +760,7 @@ impl Writer {
             self.out.push(byte);
         }
         let last = if self.random.percent(50) {
-            self.random.pick(b"ABCDHfJKXLM@Pghlmnqrpc")
+            self.random.pick(b"ABCDHfJKXLM@Pghlmnqrpcxz{vt")
         } else {
             self.random.byte(0x40, 0x7E)
         };
@@ -667,7 +774,7 @@ impl Writer {
         let parameter = self
             .random
             .pick(&["", "0", "1", "2", "3", "4", "5", "6", "7", "20"]);
-        let last = self.random.pick(b"ABCDHfJKXLM@Pghlmnqrpc");
+        let last = self.random.pick(b"ABCDHfJKXLM@Pghlmnqrpcxz{vt");
         self.high_control(0x9B);
         if marked {
             let mark = self.random.byte(0x3C, 0x3F);
@@ -689,10 +796,10 @@ impl Writer {
 
     fn many_parameters(&mut self) {
         let count = self.random.pick(&[14, 15, 16, 16, 17, 17, 18, 30, 60]);
-        let choice = self.random.below(5);
+        let choice = self.random.below(6);
         let list: Vec<&str> = (0..count)
             .map(|_| match choice {
-                0 => self
+                0 | 5 => self
                     .random
                     .pick(&["1", "4", "5", "7", "22", "24", "25", "27", "0", ""]),
                 1 | 2 => self.random.pick(&["6", "7", "25", "0", "", "9999"]),
@@ -706,6 +813,11 @@ impl Writer {
             1 => self.csi(&format!("?{joined}"), "h"),
             2 => self.csi(&format!("?{joined}"), "l"),
             3 => self.csi(&joined, "h"),
+            5 => {
+                let edges = self.random.pick(&[";;;", "2;3;4;70", "1;;9;", "3;3;3"]);
+                let last = self.random.pick(&["$r", "$t"]);
+                self.csi(&format!("{edges};{joined}"), last);
+            }
             _ => {
                 let last = self
                     .random
@@ -890,9 +1002,20 @@ impl Writer {
         for _ in 0..self.random.between(0, 2) {
             match self.random.below(8) {
                 6 => {
-                    let ignored = self
-                        .random
-                        .pick(&["24;24r", "9;3r", "50r", "4J", "3K", "?3K", "9g", "3\"q"]);
+                    let ignored = self.random.pick(&[
+                        "24;24r",
+                        "9;3r",
+                        "50r",
+                        "4J",
+                        "3K",
+                        "?3K",
+                        "9g",
+                        "3\"q",
+                        "5;5;4;9$z",
+                        "31$x",
+                        ";;;;2;;;$v",
+                        "9*x",
+                    ]);
                     self.csi(ignored, "");
                 }
                 7 => self.unlisted(),
@@ -1013,6 +1136,56 @@ impl Writer {
         if self.random.percent(50) {
             let byte = self.random.pick(&[0x8E, 0x8F]);
             self.high_control(byte);
+        }
+    }
+
+    /// A rectangle is painted, then copied, restyled and erased, all near it.
+    fn rectangle_scene(&mut self) {
+        if self.random.percent(25) {
+            self.margins();
+            let last = self.random.pick(&["h", "h", "l"]);
+            self.csi("?6", last);
+        }
+        for _ in 0..self.random.between(0, 2) {
+            match self.random.below(3) {
+                0 => self.looks(),
+                1 => self.sets(),
+                _ => self.extent(),
+            }
+        }
+        let top = self.random.pick(&[1, 1, 2, 4, 10, 18, 21, 22, 23, 24, 34]);
+        let left = self.random.pick(&[1, 1, 2, 20, 40, 66, 74, 78, 79, 80]);
+        let (height, width) = (self.random.between(1, 6), self.random.between(1, 14));
+        let painted = [top, left, top + height - 1, left + width - 1];
+        let edges = painted.map(|edge| edge.to_string()).join(";");
+        self.fill(&edges);
+        if self.random.percent(60) {
+            self.csi(&format!("{top};{left}"), "H");
+            self.text(width);
+        }
+        for _ in 0..self.random.between(2, 6) {
+            // A little more or less than what was painted.
+            let mut near = painted;
+            for edge in &mut near {
+                *edge = (*edge + self.random.pick(&[0, 0, 1, 1, 1, 2, 3])).saturating_sub(1);
+            }
+            let edges = match self.random.percent(90) {
+                true => near.map(|edge| edge.to_string()).join(";"),
+                false => self.edges(),
+            };
+            match self.random.below(12) {
+                0 => self.csi(&edges, "$z"),
+                1 | 2 => self.csi(&edges, "${"),
+                3 => self.fill(&edges),
+                4..=6 => {
+                    let down = (top + self.random.below(5)).saturating_sub(2);
+                    let across = (left + self.random.below(7)).saturating_sub(3);
+                    self.copy(&edges, &format!("{down};{across}"));
+                }
+                7..=9 => self.restyle(&edges),
+                10 => self.extent(),
+                _ => self.looks(),
+            }
         }
     }
 

@@ -11,6 +11,7 @@
 //! * `state`: everything between two calls but the page; fresh and whole.
 //! * `parser`: from bytes to signs, controls and finished sequences.
 //! * `functions`: what each of these does; steps.
+//! * `rectangles`: the functions on a rectangle of cells.
 //! * `reply`: the texts that are sent back.
 //! * `calls`: the four calls with their answers.
 //! * `text`: the page as text.
@@ -28,6 +29,7 @@ pub mod grammar;
 pub mod page;
 pub mod parser;
 pub mod plan;
+pub mod rectangles;
 pub mod reply;
 pub mod script;
 pub mod state;
@@ -36,5 +38,5 @@ pub mod words;
 
 pub use calls::{ask, feed, read_cell, start};
 pub use parser::{Given, Parser};
-pub use state::{is_whole, Cursor, Saved, Sets, Slot, State};
+pub use state::{is_whole, Cursor, Extent, Saved, Sets, Slot, State};
 pub use text::text;

@@ -47,6 +47,21 @@ impl Page {
         differs
     }
 
+    pub fn cell(&self, row: usize, column: usize) -> Cell {
+        self.rows[row - 1][column - 1]
+    }
+
+    /// Every row and column of the page, in reading order.
+    pub fn places(&self) -> Vec<(usize, usize)> {
+        let mut places = Vec::new();
+        for row in 1..=self.rows.len() {
+            for column in 1..=COLUMNS {
+                places.push((row, column));
+            }
+        }
+        places
+    }
+
     pub fn put(&mut self, row: usize, column: usize, cell: Cell) {
         self.rows[row - 1][column - 1] = cell;
     }

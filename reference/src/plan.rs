@@ -1,10 +1,13 @@
 //! What is compared, as scripts. The fixed parts are always the same; the
 //! streams depend on a seed alone.
 
+mod rectangles;
+
 use crate::examples;
 use crate::grammar::{stream, Random};
 use crate::parser::Given;
 use crate::script::*;
+pub use rectangles::*;
 
 pub const SIZES: [u16; 3] = [24, 36, 48];
 
@@ -12,7 +15,7 @@ pub const SIZES: [u16; 3] = [24, 36, 48];
 const ROOM: u16 = 12;
 
 /// The bytes of every file in the directory of captures.
-pub const CAPTURES: [(&str, &[u8]); 14] = [
+pub const CAPTURES: [(&str, &[u8]); 15] = [
     ("boot", include_bytes!("../../captures/boot.bytes")),
     ("damaged", include_bytes!("../../captures/damaged.bytes")),
     ("edge", include_bytes!("../../captures/edge.bytes")),
@@ -23,6 +26,7 @@ pub const CAPTURES: [(&str, &[u8]); 14] = [
     ("log", include_bytes!("../../captures/log.bytes")),
     ("margins", include_bytes!("../../captures/margins.bytes")),
     ("menu", include_bytes!("../../captures/menu.bytes")),
+    ("meter", include_bytes!("../../captures/meter.bytes")),
     (
         "saved-form",
         include_bytes!("../../captures/saved-form.bytes"),
@@ -51,6 +55,11 @@ pub fn fixed_parts() -> Vec<Script> {
         captures(),
         functions_at_the_edges(),
         saved_protection_and_shift(),
+        rectangle_edges(),
+        rectangle_copies(),
+        fill_codes(),
+        attributes(),
+        rectangles_in_situations(),
         bytes_in_each_phase(),
         rooms(),
         broken_states(),
@@ -301,6 +310,13 @@ fn preparations(rows: u16) -> Vec<Preparation> {
     add(7, 40, "\x1B G\x1B[7;40H".into());
     add(last, 80, format!("\x1B G\x1B[?7h\x1B[{last};80Hz"));
     add(10, 80, "\x1B G\x1B[5;10r\x1B[?6h\x1B[9;99H".into());
+    // Attributes change in the rectangle; also with wrap due, origin and a shift.
+    add(7, 40, "\u{9B}2*x\x1B[7;40H".into());
+    add(
+        7,
+        80,
+        "\u{9B}2*x\x1B[5;10r\x1B[?6;7h\x1B[3;80Hz\u{8E}".into(),
+    );
     // Tabs cleared, tabs set; cursor hidden.
     add(7, 40, "\x1B[3g\x1B[7;45H\x1BH\x1B[7;40H".into());
     add(7, 80, "\x1B[7;80H\x1BH".into());
@@ -403,6 +419,7 @@ fn listed(rows: u16) -> Vec<Vec<u8>> {
         csi(selector, "c");
     }
     csi("", "!p");
+    list.extend(listed_rectangles(rows));
     // Two functions in a row.
     for bytes in [
         &b"\x1B7\x1B[3;3H\x1B8"[..],
@@ -576,6 +593,7 @@ fn odd(rows: u16) -> Vec<Vec<u8>> {
         csi(&format!("?{}", many(count, "6")), "h");
         csi(&format!("2;3{}", many(count, "")), "H");
     }
+    list.extend(odd_rectangles(rows));
     // Functions in a row.
     for bytes in [
         &b"\x1B8\x1B8"[..],
@@ -1191,6 +1209,7 @@ fn parsers_left_by_bytes() -> Vec<(Given, Vec<&'static [u8]>)> {
         b"\x1B7",
         b"\x9B1\"q",
     ];
+    let rectangles: Vec<&[u8]> = vec![b"r", b"t", b"v", b"x", b"z", b"{", b"$r", b"1r"];
     let escape: Vec<&[u8]> = vec![
         b"7", b"8", b"c", b"D", b"E", b"H", b"M", b"Z", b"n", b"B", b"0", b"A", b"5", b"F", b"G",
         b"(0", b"%5", b"#8", b" G", b"%%5", b"\x7F0", b"\xB0", b"\n0", b"\x180", b"]x\x9Cy",
@@ -1261,6 +1280,11 @@ fn parsers_left_by_bytes() -> Vec<(Given, Vec<&'static [u8]>)> {
             let mut given = Given { phase: 7, ..given };
             given.intermediates[0] = intermediate;
             list.push((given, after_intermediate.clone()));
+        }
+        for intermediate in [0x24, 0x2A] {
+            let mut given = Given { phase: 7, ..given };
+            given.intermediates[0] = intermediate;
+            list.push((given, rectangles.clone()));
         }
         for intermediates in [[0x21, 0x22], [0x20, 0x2F]] {
             let given = Given {

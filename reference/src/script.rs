@@ -6,7 +6,7 @@ use crate::calls::{ask, feed, read_cell, start};
 use crate::cell::Rendition;
 use crate::page::COLUMNS;
 use crate::parser::{Given, Parser};
-use crate::state::{Sets, Shift, State};
+use crate::state::{Extent, Sets, Shift, State};
 use crate::text::text;
 
 /// The words in the buffer; also the most reply bytes that a feeding is lent.
@@ -35,14 +35,14 @@ pub const CHANGED_ROW: u16 = 12;
 const PARSER_BYTES: usize = 37;
 
 /// The bytes that V writes after its letter, and where some of them are.
-pub const VIEW_BYTES: usize = 50;
+pub const VIEW_BYTES: usize = 51;
 pub const VIEW_ROW: usize = 1;
 pub const VIEW_COLUMN: usize = 2;
 pub const VIEW_WRAP_DUE: usize = 3;
 pub const VIEW_TOP: usize = 4;
 pub const VIEW_BOTTOM: usize = 5;
 pub const VIEW_SHOWN: usize = 10;
-pub const VIEW_TABS: usize = 40;
+pub const VIEW_TABS: usize = 41;
 
 /// A script being built.
 #[derive(Clone, Default)]
@@ -351,6 +351,7 @@ fn view_of(state: &State) -> [u8; VIEW_BYTES] {
     bytes.push(state.cursor.wrap_due as u8);
     bytes.extend([state.top as u8, state.bottom as u8]);
     bytes.extend(modes.map(u8::from));
+    bytes.push((state.extent == Extent::Rectangle) as u8);
     bytes.extend(rendition(state.rendition));
     bytes.push(state.protection as u8);
     bytes.extend(sets(state.sets));
@@ -522,6 +523,7 @@ mod tests {
             s.start_right(36);
             s.view();
             s.feed(b"\x1B[5;10r\x1B[?6;7h\x1B[4;20h\x1B[?25l\x1B G\x1B[1;5m", 0);
+            s.feed(b"\x1B[2*x", 0);
             s.feed(
                 b"\x1B[1\"q\x1B)0\x1B.A\x1B+B\x1Bo\x1B~\x1B[2;80Hx\x8E\x1B7",
                 0,
@@ -537,28 +539,28 @@ mod tests {
             s.view();
         });
         let fresh = [
-            &[36, 1, 1, 0, 1, 36, 0, 0, 0, 0, 1, 0][..],
+            &[36, 1, 1, 0, 1, 36, 0, 0, 0, 0, 1, 0, 0][..],
             &[0, 0, 0, 0, 0, 0, 0, 2, 2, 0, 2, 0],
             &[1, 1, 0, 0, 0, 0, 0, 0, 0, 0, 2, 2, 0, 2, 0, 0],
             &[0, 1, 1, 1, 1, 1, 1, 1, 1, 1],
         ]
         .concat();
         let mut after = [
-            &[36, 6, 80, 1, 5, 10, 1, 1, 1, 1, 0, 1][..],
+            &[36, 6, 80, 1, 5, 10, 1, 1, 1, 1, 0, 1, 1][..],
             &[0, 1, 0, 1, 0, 2, 1, 3, 0, 1, 3, 2],
             &[6, 80, 1, 1, 0, 1, 0, 1, 0, 1, 3, 0, 3, 1, 1, 1],
             &[0, 0, 0, 0, 0, 0, 0, 0, 0, 128],
         ]
         .concat();
         let mut expected = [b"S\0V", &fresh[..]].concat();
-        for length in [36, 29, 30] {
+        for length in [36, 5, 29, 30] {
             expected.extend([b'F', 0, length, 0, 0, 0]);
         }
         expected.push(b'V');
         expected.extend(&after);
         after[VIEW_SHOWN] = 1;
         after[0] = 24;
-        after[24] = 255;
+        after[25] = 255;
         expected.push(b'V');
         expected.extend(&after);
         assert_eq!(output, expected);

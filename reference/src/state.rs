@@ -98,6 +98,14 @@ pub enum Shift {
     G3,
 }
 
+/// The cells that the change and the reversal of attributes reach.
+#[derive(Clone, Copy, PartialEq, Eq, Debug)]
+pub enum Extent {
+    /// From the first corner to the last in reading order.
+    Stream,
+    Rectangle,
+}
+
 #[derive(Clone, PartialEq, Debug)]
 pub struct State {
     /// R.
@@ -115,6 +123,7 @@ pub struct State {
     pub autowrap: bool,
     pub cursor_shown: bool,
     pub eight_bit_replies: bool,
+    pub extent: Extent,
     pub rendition: Rendition,
     pub protection: bool,
     pub sets: Sets,
@@ -143,6 +152,7 @@ impl State {
             autowrap: false,
             cursor_shown: true,
             eight_bit_replies: false,
+            extent: Extent::Stream,
             rendition: Rendition::PLAIN,
             protection: false,
             sets: Sets::FRESH,

@@ -57,6 +57,7 @@ fn start_blanks_and_makes_fresh() {
         assert_eq!(tabs, [9, 17, 25, 33, 41, 49, 57, 65, 73]);
         assert!(!state.insert && !state.newline && !state.origin && !state.autowrap);
         assert!(state.cursor_shown && !state.eight_bit_replies && !state.protection);
+        assert_eq!(state.extent, Extent::Stream);
         assert_eq!(state.sets.g0, Set::Ascii);
         assert_eq!(state.sets.g1, Set::Ascii);
         assert_eq!(state.sets.g2, Set::Supplemental);
@@ -468,6 +469,25 @@ fn unlisted_sequences_do_nothing() {
         b"\x1B[d",
         b"\x1B[s",
         b"\x1B[~",
+        b"\x1B[?1;1;9;80$z",
+        b"\x1B[$$z",
+        b"\x1B[*z",
+        b"\x1B[!{",
+        b"\x1B[{",
+        b"\x1B[>97$x",
+        b"\x1B[97$ x",
+        b"\x1B[2x",
+        b"\x1B[?2*x",
+        b"\x1B[2**x",
+        b"\x1B[2*$x",
+        b"\x1B[3*x",
+        b"\x1B[1;1;1;1;1;5;5*v",
+        b"\x1B[v",
+        b"\x1B[1;1;9;80;1*r",
+        b"\x1B[1;1;9;80;1 t",
+        b"\x1B[$p",
+        b"\x1B[1;1;9;80$y",
+        b"\x1B[2*y",
     ] {
         let before = Console::fed(b"zz\x1B[?7h\x1B[4;80Hw\x1B[1m");
         let (page, state) = (before.page.clone(), before.state.clone());
@@ -480,7 +500,7 @@ fn unlisted_sequences_do_nothing() {
 
 #[test]
 fn unlisted_numbers_do_nothing() {
-    let listed: [(&str, &str, &[usize]); 9] = [
+    let listed: [(&str, &str, &[usize]); 10] = [
         ("", "m", &[0, 1, 4, 5, 7, 22, 24, 25, 27]),
         ("", "h", &[4, 20]),
         ("", "l", &[4, 20]),
@@ -488,13 +508,14 @@ fn unlisted_numbers_do_nothing() {
         ("?", "l", &[6, 7, 25]),
         ("", "g", &[0, 3]),
         ("", "\"q", &[0, 1, 2]),
+        ("", "*x", &[0, 1, 2]),
         ("", "n", &[5, 6]),
         ("?", "n", &[6, 15]),
     ];
     // All modes and renditions off, and all on.
     for setup in [
         "\x1B[?25l",
-        "\x1B[4;20h\x1B[?6;7h\x1B[1;4;5;7m\x1B[1\"q\x1B[24;80Hw",
+        "\x1B[4;20h\x1B[?6;7h\x1B[1;4;5;7m\x1B[1\"q\x1B[2*x\x1B[24;80Hw",
     ] {
         let before = Console::fed(setup.as_bytes());
         for (mark, last, numbers) in listed {
@@ -835,6 +856,13 @@ fn wrap_due_is_kept() {
         b"\x1B[5:A",
         b"\x1B[?A\x1B[E\x1B9",
         b"\x1B7\x1B8",
+        b"\x1B[2*x\x1B[*x\x1B[7*x",
+        b"\x1B[$z\x1B[5;80;5;80$z\x1B[5;5;4;9$z",
+        b"\x1B[${\x1B[5;80;5;80${\x1B[5;9;5;8${",
+        b"\x1B[97$x\x1B[97;5;80;5;80$x\x1B[$x\x1B[31$x\x1B[97;5;9;5;8$x",
+        b"\x1B[;;;;;5;70$v\x1B[;;;;2;5;70$v\x1B[9;;8;;;5;70$v",
+        b"\x1B[$r\x1B[5;80;5;80;7$r\x1B[;;;;99$r\x1B[5;5;4;9;7$r",
+        b"\x1B[$t\x1B[5;80;5;80;7$t\x1B[;;;;22$t\x1B[5;5;4;9;7$t",
     ] {
         assert_eq!(due(5).feed(bytes).at(), (5, 80, true), "{bytes:?}");
     }
@@ -1400,7 +1428,7 @@ fn screen_of_e() {
 #[test]
 fn full_reset() {
     let mut c = Console::of(36).feed(
-        b"\x1B[3;4HA\x1B[5;9r\x1B[?6;7h\x1B[?25l\x1B[4;20h\x1B G\x1B[1m\x1B[1\"q\x1B(0\x0E\x1B[3g\x1B7\x8E",
+        b"\x1B[3;4HA\x1B[5;9r\x1B[?6;7h\x1B[?25l\x1B[4;20h\x1B G\x1B[1m\x1B[1\"q\x1B(0\x0E\x1B[3g\x1B7\x8E\x1B[2*x",
     );
     assert_eq!(c.ask(), [3]);
     c.more(b"\x1B[1;1HB\x0D");
@@ -1418,7 +1446,7 @@ fn full_reset() {
 
 #[test]
 fn soft_reset() {
-    let setup: &[u8] = b"\x1B[5;9r\x1B[?6;7h\x1B[?25l\x1B[4;20h\x1B G\x1B[1m\x1B[1\"q\x1B(0\x0E\x1B|\x1B[3g\x1B[2;7H\x1B7\x8Ex\x8E";
+    let setup: &[u8] = b"\x1B[5;9r\x1B[?6;7h\x1B[?25l\x1B[4;20h\x1B G\x1B[1m\x1B[1\"q\x1B(0\x0E\x1B|\x1B[3g\x1B[2;7H\x1B7\x8Ex\x8E\x1B[2*x";
     let before = Console::fed(setup);
     let page = before.page.clone();
     let c = before.feed(b"\x1B[!p");
@@ -1429,6 +1457,7 @@ fn soft_reset() {
     expected.tabs = [false; 80];
     expected.newline = true;
     expected.eight_bit_replies = true;
+    expected.extent = Extent::Rectangle;
     expected.changed = [6].into();
     assert_eq!(c.state, expected);
     // With parameters it acts all the same.
@@ -1447,6 +1476,462 @@ fn modes_take_all_parameters_in_order() {
     // Without and with ? are different lists.
     let c = Console::fed(b"\x1B[6;7h\x1B[?4;20h");
     assert_eq!(c.state, Console::new().state);
+}
+
+// ---- Rectangles -------------------------------------------------------------
+
+/// "." in every cell, and nothing noted.
+fn dotted(rows: usize) -> Console {
+    let mut c = Console::of(rows);
+    c.page.fill(0x2E);
+    c
+}
+
+/// The first and last row and column of the cells that are not ".", and how
+/// many they are; none if there is none.
+fn touched(c: &Console) -> Option<(usize, usize, usize, usize, usize)> {
+    let cells: Vec<(usize, usize)> = (0..c.page.len())
+        .filter(|&n| c.page[n] != 0x2E)
+        .map(|n| (n / 80 + 1, n % 80 + 1))
+        .collect();
+    let rows = cells.iter().map(|cell| cell.0);
+    let columns = cells.iter().map(|cell| cell.1);
+    Some((
+        rows.clone().min()?,
+        columns.clone().min()?,
+        rows.max()?,
+        columns.max()?,
+        cells.len(),
+    ))
+}
+
+/// What a function leaves of the dots.
+fn rectangle(rows: usize, bytes: &str) -> Option<(usize, usize, usize, usize, usize)> {
+    touched(&dotted(rows).feed(bytes.as_bytes()))
+}
+
+#[test]
+fn edges_of_rectangles() {
+    for (before, code, last) in [
+        ("", "", "$z"),
+        ("", "", "${"),
+        ("", "97;", "$x"),
+        ("\x1B[2*x", "", ";7$r"),
+        ("\x1B[2*x", "", ";7$t"),
+    ] {
+        let run = |rows: usize, edges: &str| {
+            rectangle(rows, &format!("{before}\x1B[{code}{edges}{last}"))
+        };
+        let inside = |edges: &str| {
+            let before = format!("{before}\x1B[5;10r\x1B[?6h");
+            rectangle(24, &format!("{before}\x1B[{code}{edges}{last}"))
+        };
+        // An edge of 0, or none, is the page's own.
+        for rows in [24, 36, 48] {
+            let all = Some((1, 1, rows, 80, rows * 80));
+            assert_eq!(run(rows, ";;;"), all);
+            assert_eq!(run(rows, "0;0;0;0"), all);
+            assert_eq!(run(rows, "1;1;9999;9999"), all);
+            assert_eq!(
+                run(rows, "9999;9999;9999;9999"),
+                Some((rows, 80, rows, 80, 1))
+            );
+            let last = Some((rows, 1, rows, 80, 80));
+            assert_eq!(run(rows, &format!("{rows};;;")), last);
+            assert_eq!(run(rows, &format!("{};;{};", rows + 6, rows + 2)), last);
+        }
+        assert_eq!(run(24, "3;4;5;6"), Some((3, 4, 5, 6, 9)));
+        assert_eq!(run(24, "3;4;3;4"), Some((3, 4, 3, 4, 1)));
+        assert_eq!(run(24, ";79;2;"), Some((1, 79, 2, 80, 4)));
+        assert_eq!(run(24, "23;;;2"), Some((23, 1, 24, 2, 4)));
+        assert_eq!(run(24, "2;81;2;99"), Some((2, 80, 2, 80, 1)));
+        // Nothing.
+        assert_eq!(run(24, "4;1;3;80"), None);
+        assert_eq!(run(24, "1;41;24;40"), None);
+        assert_eq!(run(24, "25;1;23;80"), None);
+        // With origin rows count from T, but 0 does not; they are held to R.
+        assert_eq!(inside(";;;"), Some((1, 1, 24, 80, 1920)));
+        assert_eq!(inside("1;2;2;3"), Some((5, 2, 6, 3, 4)));
+        assert_eq!(inside(";2;1;3"), Some((1, 2, 5, 3, 10)));
+        assert_eq!(inside("6;2;8;3"), Some((10, 2, 12, 3, 6)));
+        assert_eq!(inside("20;2;21;3"), Some((24, 2, 24, 3, 2)));
+        assert_eq!(inside("9999;;9999;"), Some((24, 1, 24, 80, 80)));
+        assert_eq!(inside("2;1;1;80"), None);
+        // Without origin margins don't matter.
+        let margins = format!("{before}\x1B[5;10r\x1B[{code}1;1;1;1{last}");
+        assert_eq!(rectangle(24, &margins), Some((1, 1, 1, 1, 1)));
+    }
+}
+
+#[test]
+fn erasing_a_rectangle() {
+    let mut c = Console::fed(b"\x1B[1;7mab\x1B[1\"qcd\x1B[2;1Hef\x1B[3;9H");
+    c.page[81] = 0xFFC1;
+    c.ask();
+    c.more(b"\x1B[1;2;2;3$z");
+    let bold = BOLD | REVERSE;
+    assert_eq!(
+        c.page[..4],
+        [0x61 | bold, 0x20, 0x20, 0x64 | bold | PROTECTED]
+    );
+    assert_eq!(c.page[80..83], [0x65 | bold | PROTECTED, 0x20, 0x20]);
+    assert_eq!((c.ask(), c.at()), (vec![1, 2], (3, 9, false)));
+    // Rendition and protection that are current stay.
+    c.more(b"g");
+    assert_eq!(c.word(3, 9), 0x67 | bold | PROTECTED);
+}
+
+#[test]
+fn selectively_erasing_a_rectangle() {
+    let mut c = Console::new();
+    for (n, word) in [0xC041, 0xE042, 0x5EC3, 0x3E44, 0x0020, 0x4020]
+        .iter()
+        .enumerate()
+    {
+        c.page[n] = *word;
+        c.page[80 + n] = *word;
+    }
+    c.more(b"\x1B[1;1;1;79${");
+    assert_eq!(
+        c.page[..6],
+        [0x0020, 0xE042, 0x1E20, 0x3E44, 0x0020, 0x0020]
+    );
+    assert_eq!(
+        c.page[80..86],
+        [0xC041, 0xE042, 0x5EC3, 0x3E44, 0x0020, 0x4020]
+    );
+    assert_eq!(c.ask(), [1]);
+    // Protected cells only: nothing is written.
+    c.more(b"\x1B[1;2;2;2${\x1B[1;4;2;5${");
+    assert_eq!(
+        c.page[80..86],
+        [0xC041, 0xE042, 0x5EC3, 0x3E44, 0x0020, 0x4020]
+    );
+    assert_eq!(c.ask(), [0; 0]);
+}
+
+#[test]
+fn filling_a_rectangle() {
+    // Every code, with each set in GL and each in GR.
+    let left = ["\x1B(B", "\x1B(0", "\x1B(%5", "\x1B-A\x0E"];
+    let right = ["\x1B*B", "\x1B*0", "\x1B*%5", "\x1B.A"];
+    for gl in 0..4 {
+        for gr in 0..4 {
+            for shift in ["", "\x1BN", "\x1BO"] {
+                let sets = format!("{}{}{shift}", left[gl], right[gr]);
+                let mut c = Console::fed(sets.as_bytes());
+                let state = c.state.clone();
+                for code in (0..=300).chain([511, 544, 9_999]) {
+                    let low = code as u16 & 0x7F;
+                    let set = match code {
+                        32..=127 => Some(gl),
+                        160..=255 => Some(gr),
+                        _ => None,
+                    };
+                    let expected = match (set, code) {
+                        (Some(3), _) => Some(low | LATIN1),
+                        (Some(_), 32) => Some(0x20),
+                        (Some(_), 127 | 160 | 255) | (None, _) => None,
+                        (Some(set), _) => Some(low | (set as u16) << 7),
+                    };
+                    c.page[81] = 0xC02E;
+                    c.more(format!("\x1B[{code};2;2;2;2$x").as_bytes());
+                    assert_eq!(c.page[81], expected.unwrap_or(0xC02E), "{sets:?} {code}");
+                    assert!(c.ask().len() == expected.is_some() as usize);
+                    assert_eq!(c.state, state, "{sets:?} {code}");
+                }
+                c.page[81] = 0x20;
+                assert!(c.blank_but(&[]));
+            }
+        }
+    }
+    // Rendition and protection; protected cells are filled too.
+    let mut c = Console::fed(b"\x1B[1\"qab\x1B[0\"q\x1B[4;5m\x1B[120;1;1;1;2$x");
+    assert_eq!(
+        c.page[..3],
+        [0x78 | UNDERLINE | BLINK, 0x78 | UNDERLINE | BLINK, 0x20]
+    );
+    c.more(b"\x1B[m\x1B[1\"q\x1B[32;1;1;1;2$x");
+    assert_eq!(c.page[..3], [0x20 | PROTECTED, 0x20 | PROTECTED, 0x20]);
+    // Insert mode moves nothing; without a code it is ignored.
+    let c = Console::fed(b"abc\x1B[4h\x1B[120;1;1;1;1$x\x1B[$x\x1B[;1;1;1;1$x");
+    assert_eq!(c.line(1), "xbc");
+}
+
+/// Letters by row and column, unlike those of the neighbours.
+fn patterned() -> Console {
+    let mut c = Console::new();
+    for (n, word) in c.page.iter_mut().enumerate() {
+        *word = (n * 7 + n / 80 * 3) as u16 ^ 0xA000;
+    }
+    c
+}
+
+#[test]
+fn copying_a_rectangle() {
+    let before = patterned().page;
+    for (top, left, bottom, right) in [
+        (5, 10, 8, 15),
+        (5, 10, 5, 20),
+        (5, 10, 9, 10),
+        (1, 1, 24, 80),
+        (20, 70, 24, 80),
+        (1, 1, 3, 3),
+    ] {
+        for (to_top, to_left) in [
+            (top, left),
+            (top + 1, left + 1),
+            (top, left + 1),
+            (top + 1, left),
+            (top + 2, left + 3),
+            (top.max(3) - 2, left + 1),
+            (top + 1, left.max(2) - 1),
+            (top.max(2) - 1, left.max(2) - 1),
+            (24, 80),
+            (1, 1),
+            (22, 3),
+            (2, 77),
+        ] {
+            let mut c = patterned();
+            let bytes = format!("\x1B[{top};{left};{bottom};{right};1;{to_top};{to_left};1$v");
+            c.more(bytes.as_bytes());
+            let (to_top, to_left) = (to_top.min(24), to_left.min(80));
+            for row in 1..=24 {
+                for column in 1..=80 {
+                    let word = |row: usize, column: usize| before[(row - 1) * 80 + column - 1];
+                    // Where the cell came from, if it is in the target.
+                    let from = (row + top, column + left);
+                    let inside = from.0 >= top + to_top
+                        && from.0 <= bottom + to_top
+                        && from.1 >= left + to_left
+                        && from.1 <= right + to_left;
+                    let expected = match inside {
+                        true => word(from.0 - to_top, from.1 - to_left),
+                        false => word(row, column),
+                    };
+                    assert_eq!(c.word(row, column), expected, "{bytes:?} {row} {column}");
+                }
+            }
+            assert_eq!(c.at(), (1, 1, false));
+        }
+    }
+}
+
+#[test]
+fn copying_defaults_pages_and_origin() {
+    let line = b"\x1B[1;1Habc\x1B[2;1Hdef\x1B[H";
+    let lines = |bytes: &[u8]| Console::fed(line).feed(bytes).lines(1, 3);
+    // Nothing named: the page onto itself.
+    assert_eq!(lines(b"\x1B[$v"), ["abc", "def", ""]);
+    assert_eq!(lines(b"\x1B[2;2$v"), ["ef", "", ""]);
+    assert_eq!(lines(b"\x1B[;;1;2;;2;2$v"), ["abc", "dab", ""]);
+    assert_eq!(lines(b"\x1B[1;2;1;3;0;3;0;0$v"), ["abc", "def", "bc"]);
+    // Pages 0 and 1, and no other.
+    for (from, to) in [(0, 0), (0, 1), (1, 0), (1, 1)] {
+        let bytes = format!("\x1B[1;1;1;3;{from};3;1;{to}$v");
+        assert_eq!(lines(bytes.as_bytes()), ["abc", "def", "abc"]);
+    }
+    for (from, to) in [(2, 0), (0, 2), (2, 2), (1, 9_999), (256, 1), (1, 257)] {
+        let bytes = format!("\x1B[1;1;1;3;{from};3;1;{to}$v");
+        assert_eq!(lines(bytes.as_bytes()), ["abc", "def", ""]);
+    }
+    // Ignored.
+    assert_eq!(lines(b"\x1B[2;1;1;3;1;3;1;1$v"), ["abc", "def", ""]);
+    assert_eq!(lines(b"\x1B[1;3;1;2;1;3;1;1$v"), ["abc", "def", ""]);
+    // With origin both count from T, but 0 is row 1; all is held to the page.
+    let c = Console::fed(line).feed(b"\x1B[2;3r\x1B[?6h\x1B[1;1;1;3;;2;4$v");
+    assert_eq!(c.lines(1, 3), ["abc", "def", "   def"]);
+    let c = c.feed(b"\x1B[1;1;1;3;;0;4$v");
+    assert_eq!(c.lines(1, 3), ["abcdef", "def", "   def"]);
+    let c = c.feed(b"\x1B[;;2;3;;9999;79$v");
+    assert_eq!((c.word(24, 79), c.word(24, 80)), (0x61, 0x62));
+    assert_eq!((c.word(23, 79), c.word(1, 79)), (0x20, 0x20));
+}
+
+#[test]
+fn changed_attributes() {
+    let change = |list: &str, word: u16| {
+        let mut c = Console::new();
+        c.page[0] = word;
+        c.more(format!("\x1B[1;1;1;1{list}").as_bytes());
+        assert!(c.blank_but(&[1]));
+        assert_eq!(c.ask().len(), (c.page[0] != word) as usize);
+        c.page[0]
+    };
+    let all = BOLD | UNDERLINE | BLINK | REVERSE;
+    for set in [0, GRAPHICS, SUPPLEMENTAL, LATIN1] {
+        for protected in [0, PROTECTED] {
+            let word = 0x61 | set | protected;
+            // On and off.
+            for (on, off, flag) in [
+                (1, 22, BOLD),
+                (4, 24, UNDERLINE),
+                (5, 25, BLINK),
+                (7, 27, REVERSE),
+            ] {
+                assert_eq!(change(&format!(";{on}$r"), word | 0xC000), word | flag);
+                assert_eq!(change(&format!(";{on}$r"), word | all), word | all);
+                assert_eq!(
+                    change(&format!(";{off}$r"), word | all),
+                    word | (all ^ flag)
+                );
+                assert_eq!(change(&format!(";{on};{off}$r"), word), word);
+                assert_eq!(change(&format!(";{off};{on}$r"), word), word | flag);
+                assert_eq!(change(&format!(";{on}$t"), word | all), word | (all ^ flag));
+                assert_eq!(change(&format!(";{on}$t"), word | 0x4000), word | flag);
+                assert_eq!(change(&format!(";{on};{on}$t"), word | 0xC000), word);
+                // Not listed in a reversal, so nothing is written.
+                assert_eq!(change(&format!(";{off}$t"), word | 0xC000), word | 0xC000);
+            }
+            // 0, given or not.
+            for list in ["", ";", ";0", ";;", ";1;", ";99;0"] {
+                assert_eq!(change(&format!("{list}$r"), word | all | 0xC000), word);
+            }
+            for list in ["", ";", ";0", ";99;", ";;0;0", ";0;99"] {
+                assert_eq!(
+                    change(&format!("{list}$t"), word | BOLD | 0x8000),
+                    word | (all ^ BOLD)
+                );
+            }
+            assert_eq!(change(";1;0$r", word), word);
+            assert_eq!(change(";0;1$r", word | all), word | BOLD);
+            assert_eq!(change(";0;4;5;$t", word), word | UNDERLINE | BLINK);
+            // None is listed.
+            for list in [";2", ";99;8", ";21;9999", ";257;65537"] {
+                for last in ["$r", "$t"] {
+                    assert_eq!(
+                        change(&format!("{list}{last}"), word | 0xC000),
+                        word | 0xC000
+                    );
+                }
+            }
+            // Twelve values are kept.
+            let eleven = ";99".repeat(11);
+            assert_eq!(change(&format!("{eleven};1$r"), word), word | BOLD);
+            assert_eq!(
+                change(&format!("{eleven};99;1$r"), word | 0xC000),
+                word | 0xC000
+            );
+            assert_eq!(change(&format!(";7{eleven};0$r"), word), word | REVERSE);
+            assert_eq!(change(&format!(";7{eleven};7$t"), word), word | REVERSE);
+        }
+    }
+    // The current rendition stays, and is not used.
+    let mut c = Console::fed(b"\x1B[1ma\x1B[;;;;0;7$r");
+    assert_eq!(c.word(1, 1), 0x61 | REVERSE);
+    c.more(b"b");
+    assert_eq!(c.word(1, 2), 0x62 | BOLD);
+}
+
+#[test]
+fn extents_of_a_change() {
+    for last in ["$r", "$t"] {
+        let run =
+            |extent: &str, edges: &str| rectangle(24, &format!("{extent}\x1B[{edges};7{last}"));
+        // A stream goes on through columns 1 to 80.
+        for stream in [
+            "",
+            "\x1B[*x",
+            "\x1B[2*x\x1B[1*x",
+            "\x1B[2*x\x1B[0*x",
+            "\x1B[2*x\x1Bc\x1B[46$x",
+        ] {
+            assert_eq!(run(stream, "3;10;3;12"), Some((3, 10, 3, 12, 3)));
+            assert_eq!(run(stream, "3;10;4;12"), Some((3, 1, 4, 80, 71 + 12)));
+            assert_eq!(run(stream, "3;10;6;12"), Some((3, 1, 6, 80, 71 + 160 + 12)));
+            assert_eq!(run(stream, "3;80;4;80"), Some((3, 1, 4, 80, 81)));
+            assert_eq!(run(stream, "3;1;4;1"), Some((3, 1, 4, 80, 81)));
+            assert_eq!(run(stream, "3;12;4;10"), None);
+            assert_eq!(run(stream, "4;10;3;12"), None);
+        }
+        for chosen in [
+            "\x1B[2*x",
+            "\x1B[2*x\x1B[!p",
+            "\x1B[2*x\x1B[3*x",
+            "\x1B[2;1*x",
+            "\x1B7\x1B[2*x\x1B8",
+        ] {
+            assert_eq!(run(chosen, "3;10;3;12"), Some((3, 10, 3, 12, 3)));
+            assert_eq!(run(chosen, "3;10;6;12"), Some((3, 10, 6, 12, 12)));
+            assert_eq!(run(chosen, "3;12;4;10"), None);
+        }
+    }
+    // It matters for no other function.
+    assert_eq!(rectangle(24, "\x1B[3;10;6;12$z"), Some((3, 10, 6, 12, 12)));
+    let c = dotted(24).feed(b"\x1B[3;10;6;12${\x1B[97;9;9;10;10$x\x1B[3;10;4;11;;20;1$v");
+    assert_eq!(c.word(5, 13), 0x2E);
+    assert_eq!((c.word(9, 11), c.word(10, 8)), (0x2E, 0x2E));
+    assert_eq!(
+        (c.word(20, 2), c.word(20, 3), c.word(21, 2)),
+        (0x20, 0x2E, 0x20)
+    );
+}
+
+#[test]
+fn rectangles_leave_the_state() {
+    for sequence in [
+        "\x1B[6;39;8;42$z",
+        "\x1B[6;39;8;42${",
+        "\x1B[113;6;39;8;42$x",
+        "\x1B[1;1;2;2;1;6;39;1$v",
+        "\x1B[6;39;8;42;1;7$r",
+        "\x1B[6;39;8;42;1;7$t",
+    ] {
+        for setup in [
+            "\x1B[7;40H\x1BN",
+            "\x1B[4h\x1B[7;40H",
+            "\x1B[?7h\x1B[7;80Hz",
+            "\x1B[5;10r\x1B[?6;7h\x1B[3;80Hz\x1BO",
+            "\x1B[1;7m\x1B[1\"q\x1B[7;40H\x1B7\x1B[m",
+        ] {
+            let prepared = || {
+                let mut c = dotted(24);
+                c.page[..80].fill(0x8061);
+                c.page[400..480].fill(0x6162);
+                c.more(setup.as_bytes());
+                c.ask();
+                c
+            };
+            // At once, and byte by byte.
+            let (mut c, mut single) = (prepared(), prepared());
+            let state = c.state.clone();
+            for byte in sequence.bytes() {
+                single.more(&[byte]);
+            }
+            c.more(sequence.as_bytes());
+            assert_eq!(single.page, c.page);
+            assert_eq!(single.state, c.state);
+            assert!(!c.ask().is_empty());
+            assert_eq!(c.state, state);
+            assert_eq!(c.replies, b"");
+        }
+    }
+    // The next character wraps.
+    let c = due(5).feed(b"\x1B[5;80;5;80$z\x1B[42;5;1;5;79$xx");
+    assert_eq!((c.word(5, 80), c.word(6, 1)), (0x20, 0x78));
+}
+
+#[test]
+fn changed_rows_of_rectangles() {
+    let mut c = Console::fed(b"\x1B[3Ha\x1B[5Hb\x1B[5;9Hc\x1B[7Hd");
+    c.ask();
+    // Only where a word differs.
+    c.more(b"\x1B[2;1;6;3$z");
+    assert_eq!(c.ask(), [3, 5]);
+    c.more(b"\x1B[2;1;6;3$z\x1B[1;1;6;8${\x1B[32;1;1;4;80$x\x1B[1;1;2;80;;3;1$v\x1B[1;1;4;80$r");
+    assert_eq!(c.ask(), [0; 0]);
+    c.more(b"\x1B[7;1;7;1;;5;9$v");
+    assert_eq!(c.ask(), [5]);
+    // Changed by one step and changed back by the next: noted.
+    c.more(b"\x1B[9;1;9;1;7$t\x1B[9;1;9;1;7$t");
+    assert_eq!(c.ask(), [9]);
+    // A list that flips twice is one step.
+    c.more(b"\x1B[9;1;9;1;7;7$t");
+    assert_eq!(c.ask(), [0; 0]);
+    // Unused bits count.
+    c.page[80 * 11] = 0x8020;
+    c.more(b"\x1B[12;1;12;1;22$r");
+    assert_eq!((c.ask(), c.page[80 * 11]), (vec![12], 0x20));
 }
 
 // ---- Replies ----------------------------------------------------------------

@@ -84,12 +84,13 @@ fn any_word_is_accepted() {
 /// The streams reach what they are for.
 #[test]
 fn streams_reach_the_edges() {
-    let mut seen = [0usize; 26];
-    for seed in 0..120 {
+    let mut seen = [0usize; 35];
+    for seed in 0..160 {
         let rows = [24, 36, 48][seed as usize % 3];
         let mut c = Console::of(rows);
         for byte in stream(seed, 3_000) {
             let before = c.state.clone();
+            let page = c.page.clone();
             let replies = c.replies.len();
             c.more(&[byte]);
             let s = &c.state;
@@ -100,6 +101,20 @@ fn streams_reach_the_edges() {
             };
             let restored = before.parser == escape && byte & 0x7F == b'8';
             let (had, has) = (before.shift.is_some(), s.shift.is_some());
+            // The functions on rectangles, where they change a cell.
+            let intermediate = match &before.parser {
+                Parser::Control {
+                    mark: None,
+                    intermediates,
+                    ..
+                } if intermediates.len() == 1 => intermediates[0],
+                _ => 0,
+            };
+            let last = byte & 0x7F;
+            let changes = |wanted: u8| {
+                byte >= 0x20 && (intermediate, last) == (b'$', wanted) && c.page != page
+            };
+            let restyles = changes(b'r') || changes(b't');
             let facts = [
                 s.cursor.wrap_due,
                 before.cursor.wrap_due && !s.cursor.wrap_due && s.cursor.column == 2,
@@ -127,6 +142,15 @@ fn streams_reach_the_edges() {
                 restored && before.protection && !s.protection,
                 restored && !had && has,
                 restored && had && !has,
+                changes(b'z'),
+                changes(b'{'),
+                changes(b'x'),
+                changes(b'v'),
+                changes(b'r'),
+                changes(b't'),
+                s.extent != before.extent,
+                restyles && s.extent == Extent::Stream,
+                restyles && s.extent == Extent::Rectangle,
             ];
             for (count, fact) in seen.iter_mut().zip(facts) {
                 *count += fact as usize;

@@ -571,6 +571,68 @@ static void test_saved_cursor(void)
         }
 }
 
+/* ---- rectangles */
+
+enum { RECTANGLE = 64 };
+
+/* Is this place inside these edges? */
+static int inside(size_t row, size_t column, size_t top, size_t left, size_t bottom, size_t right)
+{
+    return top <= row && row <= bottom && left <= column && column <= right;
+}
+
+/* A bar is filled, copied down and right over itself, restyled as a rectangle and as a stream, and erased in part. */
+static void test_rectangles(void)
+{
+    size_t row, column;
+
+    start_well(24);
+    feed_apart("\033[?7h\033[9;80Hw\033*0\216");
+    feed_apart("\033[35;2;3;4;12$x");
+    CHECK(asks(0x10E, 4) && cursor_is(PANKHOLIM_DONE, 9, 80, 1, 1));
+    feed_apart("\033[2;3;4;12;1;3;5;1$v");
+    CHECK(asks(0x01C, 3));
+    feed_apart("\033[2*x\033[4;5;5;6;7$r\033[0*x\033[3;13;4;14;4$t");
+    CHECK(asks(0x01C, 3));
+    feed_apart("\033[5;1;5;8$z\033[;;;;4$v\033[35;5;9;4;10$x");
+    CHECK(asks(0x010, 1) && cursor_is(PANKHOLIM_DONE, 9, 80, 1, 1));
+    for (row = 1; row <= 8; row++)
+        for (column = 1; column <= 80; column++) {
+            int filled = inside(row, column, 2, 3, 4, 12) || inside(row, column, 3, 5, 5, 14);
+            int erased = inside(row, column, 5, 1, 5, 8);
+            uint16_t expected = filled && !erased ? '#' : PANKHOLIM_BLANK;
+
+            if (inside(row, column, 4, 5, 5, 6) && !erased)
+                expected |= PANKHOLIM_REVERSE;
+            if (inside(row, column, 3, 13, 3, 80) || inside(row, column, 4, 1, 4, 14))
+                expected |= PANKHOLIM_UNDERLINE;
+            CHECK(reads(1920, row, column, expected));
+        }
+    /* Wrap due and the shift are still there: a of Special Graphics in the next row. */
+    feed_apart("a");
+    CHECK(reads(1920, 10, 1, 0x00E1) && reads(1920, 9, 80, 'w'));
+}
+
+/* The extent is a byte of the record: kept by CSI ! p, fresh after ESC c, and another number than 0 and 1 is refused. */
+static void test_extent(void)
+{
+    const uint8_t *extent = (const uint8_t *)&record.terminal + RECTANGLE;
+    unsigned byte;
+
+    start_well(24);
+    CHECK(*extent == 0);
+    feed_apart("\033[2*x\033[3*x\033[!p\0337\0338");
+    CHECK(*extent == 1);
+    feed_apart("\033[*x");
+    CHECK(*extent == 0);
+    feed_apart("\033[2*x\033c");
+    CHECK(*extent == 0);
+    for (byte = 2; byte < 256; byte++) {
+        ((uint8_t *)&record.terminal)[RECTANGLE] = (uint8_t)byte;
+        CHECK(feed(1920, "", 0) == PANKHOLIM_BROKEN && *extent == byte);
+    }
+}
+
 /* ---- the version */
 
 static void test_version(void)
@@ -664,7 +726,7 @@ static void test_copies(void)
 
 /* ---- a record's bytes are determined by its state */
 
-enum { UNUSED = 95, RECORD = 96 };
+enum { RECORD = 96 };
 
 /* Fills the stack below the caller, so that a byte which a call forgets to write is seen. */
 static void fill_stack(int byte)
@@ -677,16 +739,6 @@ static void fill_stack(int byte)
         at[i] = (uint8_t)byte;
 }
 
-static void set_unused(uint8_t byte)
-{
-    ((uint8_t *)&record.terminal)[UNUSED] = byte;
-}
-
-static int unused_is(uint8_t byte)
-{
-    return ((const uint8_t *)&record.terminal)[UNUSED] == byte;
-}
-
 /* Starts a record that held `byte`, feeds and asks, on a stack filled with `byte`; at once, or in two calls of each. */
 static pankholim_terminal record_after(int byte, int at_once)
 {
@@ -696,17 +748,17 @@ static pankholim_terminal record_after(int byte, int at_once)
     set_up();
     memset(&record.terminal, byte, sizeof record.terminal);
     fill_stack(byte);
-    CHECK(start(24, 1920) == PANKHOLIM_DONE && unused_is(0));
+    CHECK(start(24, 1920) == PANKHOLIM_DONE);
     fill_stack(byte);
-    CHECK(feed(1920, at_once ? "Hi\033[3;7" : "Hi\033[", 0) == PANKHOLIM_DONE && unused_is(0));
-    fill_stack(byte);
-    if (!at_once)
-        CHECK(feed(1920, "3;7", 0) == PANKHOLIM_DONE && unused_is(0));
-    fill_stack(byte);
-    CHECK(ask(&rows, &count) == PANKHOLIM_DONE && rows == 1 && count == 1 && unused_is(0));
+    CHECK(feed(1920, at_once ? "Hi\033[3;7" : "Hi\033[", 0) == PANKHOLIM_DONE);
     fill_stack(byte);
     if (!at_once)
-        CHECK(asks(0, 0) && unused_is(0));
+        CHECK(feed(1920, "3;7", 0) == PANKHOLIM_DONE);
+    fill_stack(byte);
+    CHECK(ask(&rows, &count) == PANKHOLIM_DONE && rows == 1 && count == 1);
+    fill_stack(byte);
+    if (!at_once)
+        CHECK(asks(0, 0));
     return record.terminal;
 }
 
@@ -723,31 +775,12 @@ static void test_bytes_of_a_record(void)
     }
 }
 
-/* The unused byte is not looked at: kept by a refusal, and 0 after a call that is none. */
-static void test_unused_byte(void)
-{
-    unsigned byte;
-
-    for (byte = 0; byte < 256; byte++) {
-        start_well(24);
-        set_unused((uint8_t)byte);
-        CHECK(feed(1921, "A", 0) == PANKHOLIM_WRONG_SIZE && unused_is((uint8_t)byte));
-        CHECK(start(25, 1920) == PANKHOLIM_BROKEN && unused_is((uint8_t)byte));
-        CHECK(reads(1920, 1, 1, PANKHOLIM_BLANK) && unused_is((uint8_t)byte));
-        CHECK(feed(1920, "", 0) == PANKHOLIM_DONE && unused_is(0));
-        set_unused((uint8_t)byte);
-        CHECK(feed(1920, "A\033[6n", 5) == PANKHOLIM_NO_ROOM && unused_is(0));
-        set_unused((uint8_t)byte);
-        CHECK(asks(1, 1) && unused_is(0));
-    }
-}
-
 /* ---- streams of random bytes, cut anywhere, with any room */
 
 /* A byte of a stream: often part of a sequence. */
 static uint8_t random_byte(void)
 {
-    static const char parts[] = "\033\033[[[;;0123456789?!\"#()HJKLMPXm@rhlgnc\n\r\b\tAB";
+    static const char parts[] = "\033\033[[[;;0123456789?!\"#$*()HJKLMPXm@rhlgnctvxz{\n\r\b\tAB";
 
     return (uint8_t)(below(3) == 0 ? below(256) : (unsigned)(uint8_t)parts[below(sizeof parts - 1)]);
 }
@@ -889,12 +922,13 @@ int main(int argc, char **argv)
     test_cells();
     test_cursor();
     test_saved_cursor();
+    test_rectangles();
+    test_extent();
     test_version();
     test_text();
     test_text_of_every_word();
     test_copies();
     test_bytes_of_a_record();
-    test_unused_byte();
     test_streams();
     for (i = 1; i < argc; i++)
         test_capture(argv[i]);

@@ -128,7 +128,7 @@ static void put_text(void)
 
 /* ---- the record's bytes (crates/record/src/lib.rt), which only a test that breaks records needs */
 
-enum { VALUES = 8, TABS = 40, PARSER = 90 };
+enum { VALUES = 8, TABS = 40, PARSER = 91 };
 
 /* Where the script's fields lie, and which are flags. */
 static const struct {
@@ -140,7 +140,7 @@ static const struct {
     { 1, 55, 0 }, { 2, 56, 0 }, { 3, 57, 1 },               /* the cursor's row, column and wrap due */
     { 4, 51, 0 }, { 5, 52, 0 },                             /* T and B */
     { 6, 60, 1 }, { 7, 61, 1 },                             /* origin and autowrap */
-    { 8, 74, 0 }, { 9, 75, 0 }, { 10, 76, 1 },              /* the saved row, column and wrap due */
+    { 8, 75, 0 }, { 9, 76, 0 }, { 10, 77, 1 },              /* the saved row, column and wrap due */
     { 11, 62, 1 },                                          /* cursor shown */
 };
 
@@ -179,12 +179,12 @@ static const struct {
     { 50, 50 },             /* R */
     { 55, 57 },             /* the cursor's row, column and wrap due */
     { 51, 52 },             /* T and B */
-    { 58, 63 },             /* the modes */
-    { 64, 67 },             /* the rendition */
+    { 58, 64 },             /* the modes */
+    { 65, 68 },             /* the rendition */
     { 53, 53 },             /* protection */
-    { 68, 73 },             /* G0 to G3, GL, GR */
+    { 69, 74 },             /* G0 to G3, GL, GR */
     { 54, 54 },             /* the pending shift */
-    { 74, 89 },             /* what is saved */
+    { 75, 90 },             /* what is saved */
     { TABS, TABS + 9 },     /* tab flags */
 };
 

@@ -66,15 +66,6 @@ fn bytes_are_determined_by_the_state() {
         parts.ask().unwrap();
     }
     assert_eq!(parts.to_bytes(), whole.to_bytes());
-
-    // The last byte is unused: not looked at, and 0 after a call that is not refused.
-    let mut bytes = whole.to_bytes();
-    bytes[95] = 0xA5;
-    let mut record = Record::from_bytes(bytes);
-    assert_eq!(record.feed(&mut [], b"", &mut []), Err(Refusal::WrongSize));
-    assert_eq!(record.to_bytes(), bytes);
-    record.feed(&mut page, b"", &mut []).unwrap();
-    assert_eq!(record.to_bytes(), whole.to_bytes());
 }
 
 #[test]

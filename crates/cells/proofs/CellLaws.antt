@@ -15,7 +15,13 @@ use Rattle.ground.proofs.TestLaws.{either}
 use Rattle.cells.specs.declared.CharSet.{CharSet}
 use Rattle.cells.specs.declared.CharSet.the-variants.{Ascii, SpecialGraphics, Supplemental, Latin1}
 use Rattle.cells.specs.declared.Cell.{Cell}
-use Rattle.cells.specs.Cells.{setNumber, setOf, bit, flag, packed, unpacked, plainCell, blank, spaced, selectivelyErased, hasSign, Printable}
+use Rattle.cells.specs.declared.Setting.{Setting}
+use Rattle.cells.specs.declared.Setting.the-variants.{Same, On, Off, Flipped}
+use Rattle.cells.specs.declared.Styling.{Styling}
+use Rattle.cells.specs.declared.CellChange.{CellChange}
+use Rattle.cells.specs.declared.CellChange.the-variants.{SelectiveErase, Restyle}
+use Rattle.cells.specs.Cells.{setNumber, setOf, bit, flag, packed, unpacked, plainCell, blank, spaced, selectivelyErased}
+use Rattle.cells.specs.Cells.{settingNumber, settingOf, stylingNumber, stylingOf, styled, restyled, changedBy, hasSign, Printable}
 
 -- ---- the digits
 
@@ -118,6 +124,40 @@ pub spaced-small : (w : ℕ) → spaced w < 2 ^ 14
 unfolding spaced
 spaced-small w = packed-small _
 
+-- a styling comes back from its number
+setting-digit : (x : Setting) → (settingNumber x < 4) × (settingOf (settingNumber x) ≡ x)
+setting-digit Same = (omega arith, refl)
+setting-digit On = (omega arith, refl)
+setting-digit Off = (omega arith, refl)
+setting-digit Flipped = (omega arith, refl)
+
+setting-back : (x : Setting) (n : ℕ) → n ≡ settingNumber x → settingOf n ≡ x
+setting-back x n e = rw e (setting-digit x .1)
+
+pub styling-back : (s : Styling) → stylingOf (stylingNumber s) ≡ s
+unfolding stylingOf stylingNumber
+styling-back s =
+    let b = setting-digit (s .bold) .0 in
+    let u = setting-digit (s .underline) .0 in
+    let k = setting-digit (s .blink) .0 in
+    let r = setting-digit (s .reverse) .0 in
+    let n : ℕ = stylingNumber s in
+    let bold = setting-back (s .bold) (n % 4) (omega arith) in
+    let underline = setting-back (s .underline) (n / 4 % 4) (omega arith) in
+    let blink = setting-back (s .blink) (n / 16 % 4) (omega arith) in
+    let reverse = setting-back (s .reverse) (n / 64) (omega arith) in
+    rw (bold, underline, blink, reverse)
+
+-- what other attributes leave
+pub restyled-back : (s : Styling) (w : ℕ) → unpacked (restyled s w)
+    ≡ record { code = unpacked w .code; set = unpacked w .set; rendition = styled s (unpacked w .rendition); protected = unpacked w .protected }
+unfolding restyled unpacked
+restyled-back s w = cell-back _ (omega arith)
+
+pub restyled-small : (s : Styling) (w : ℕ) → restyled s w < 2 ^ 14
+unfolding restyled
+restyled-small s w = packed-small _
+
 -- ---- what bytes put into cells
 
 pub packed-printable : (c : Cell) → c .code < 128 → hasSign (c .set) (c .code) ≡ true → Printable (packed c)
@@ -130,3 +170,11 @@ blank-printable = record { code = refl; unused = omega arith }
 pub erased-printable : (w : ℕ) → Printable w → Printable (selectivelyErased w)
 unfolding selectivelyErased spaced
 erased-printable w h = either Printable (unpacked w .protected) (λ e. h) (λ e. packed-printable _ (omega arith) refl)
+
+pub restyled-printable : (s : Styling) (w : ℕ) → Printable w → Printable (restyled s w)
+unfolding restyled unpacked
+restyled-printable s w h = packed-printable _ (omega arith) (h .code)
+
+pub changed-printable : (m : CellChange) (w : ℕ) → Printable w → Printable (changedBy m w)
+changed-printable SelectiveErase w h = erased-printable w h
+changed-printable (Restyle n) w h = restyled-printable (stylingOf n) w h

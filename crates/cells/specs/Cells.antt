@@ -1,13 +1,18 @@
 -- Cell words (SCOPE 1.2 to 1.6): a cell is a code, a set and five flags, packed into 16 bits.
 -- Bits 0 to 6 are the code, 7 and 8 the set, 9 to 13 bold, underline, blink, reverse and protected. Bits 14 and 15 are unused.
 use mathlib.Core.Path.{_≡_}
-use mathlib.Core.Bool.{Bool, true, false, cond, _&&_, _||_}
+use mathlib.Core.Bool.{Bool, true, false, cond, not, _&&_, _||_}
 use Prim.Native.Nat.{ℕ, _+_, _*_, _/_, _%_, _^_, _<_}
 use lib.Dec.{eqb, leb}
 use Rattle.cells.specs.declared.CharSet.{CharSet}
 use Rattle.cells.specs.declared.CharSet.the-variants.{Ascii, SpecialGraphics, Supplemental, Latin1}
 use Rattle.cells.specs.declared.Rendition.{Rendition}
 use Rattle.cells.specs.declared.Cell.{Cell}
+use Rattle.cells.specs.declared.Setting.{Setting}
+use Rattle.cells.specs.declared.Setting.the-variants.{Same, On, Off, Flipped}
+use Rattle.cells.specs.declared.Styling.{Styling}
+use Rattle.cells.specs.declared.CellChange.{CellChange}
+use Rattle.cells.specs.declared.CellChange.the-variants.{SelectiveErase, Restyle}
 
 -- ---- the fields
 
@@ -65,6 +70,49 @@ spaced w = packed (record { code = 0x20; set = Ascii; rendition = unpacked w .re
 -- selective erase skips a protected cell
 unfoldable pub selectivelyErased : ℕ → ℕ
 selectivelyErased w = cond (unpacked w .protected) w (spaced w)
+
+-- ---- attributes that change
+
+-- settings and stylings as numbers, and back: a digit of base 4 for each attribute
+abbrev pub settingNumber : Setting → ℕ
+settingNumber Same = 0
+settingNumber On = 1
+settingNumber Off = 2
+settingNumber Flipped = 3
+
+abbrev pub settingOf : ℕ → Setting
+settingOf n = cond (eqb n 0) Same (cond (eqb n 1) On (cond (eqb n 2) Off Flipped))
+
+unfoldable pub stylingNumber : Styling → ℕ
+stylingNumber s = settingNumber (s .bold) + 4 * settingNumber (s .underline) + 16 * settingNumber (s .blink) + 64 * settingNumber (s .reverse)
+
+unfoldable pub stylingOf : ℕ → Styling
+stylingOf n = record { bold = settingOf (n % 4); underline = settingOf (n / 4 % 4); blink = settingOf (n / 16 % 4); reverse = settingOf (n / 64) }
+
+abbrev pub setBy : Setting → Bool → Bool
+setBy Same on = on
+setBy On on = true
+setBy Off on = false
+setBy Flipped on = not on
+
+abbrev pub styled : Styling → Rendition → Rendition
+styled s r = record {
+  bold = setBy (s .bold) (r .bold);
+  underline = setBy (s .underline) (r .underline);
+  blink = setBy (s .blink) (r .blink);
+  reverse = setBy (s .reverse) (r .reverse);
+}
+
+-- code, set and protection stay, the unused bits are written zero
+unfoldable pub restyled : Styling → ℕ → ℕ
+restyled s w =
+    let c = unpacked w in
+    packed (record { code = c .code; set = c .set; rendition = styled s (c .rendition); protected = c .protected })
+
+-- what a change makes of a word
+abbrev pub changedBy : CellChange → ℕ → ℕ
+changedBy SelectiveErase w = selectivelyErased w
+changedBy (Restyle n) w = restyled (stylingOf n) w
 
 -- ---- what bytes put into cells
 

@@ -1,4 +1,4 @@
-// What a cell holds, as a word; segments of words; sets of rows.
+// What a cell holds, as a word, and what becomes of it; segments of words; sets of rows.
 pub mod marks;
 pub mod segments;
 pub mod words;
@@ -31,4 +31,29 @@ pub struct Cell {
     pub set: CharSet,
     pub rendition: Rendition,
     pub protected: bool,
+}
+
+// What becomes of one attribute.
+pub enum Setting {
+    Same,
+    On,
+    Off,
+    Flipped,
+}
+
+// What becomes of each attribute.
+pub struct Styling {
+    pub bold: Setting,
+    pub underline: Setting,
+    pub blink: Setting,
+    pub reverse: Setting,
+}
+
+// What becomes of a cell, by what it holds.
+pub enum CellChange {
+    // A space of ASCII that keeps its flags, unless the cell is protected.
+    SelectiveErase,
+    // Other attributes, by the number of a styling; code, set and protection stay. (A number, so that an edit
+    // stays within eight bytes.)
+    Restyle { styling: u8 },
 }

@@ -1,12 +1,13 @@
 // Segments: runs of words in a lent slice. Each function writes each word of its segment once, compares
 // it with the one that stood there, and says whether some word changed.
 use crate::COLUMNS;
-use crate::words::selectively_erase;
+use crate::CellChange;
+use crate::words::changed_by;
 ghost use mathlib.Core.List.{map};
 ghost use mathlib.Core.Logic.{_⊎_};
 ghost use Prim.Native.Nat.{_+_, _≤_};
 ghost use lib.ListN.{length, drop, replicate};
-ghost use Rattle.cells.specs.Cells.{selectivelyErased};
+ghost use Rattle.cells.specs.Cells.{changedBy};
 ghost use Rattle.cells.specs.Segments.{Pasted};
 
 // Copies `len` words from `from` to `to`, the first word first.
@@ -81,16 +82,28 @@ pub fn fill_words(page: &mut [u16], to: usize, len: usize, word: u16) -> bool
     changed
 }
 
-// `len` words from `to` on are selectively erased.
-pub fn erase_words(page: &mut [u16], to: usize, len: usize) -> bool
+// The same in columns of one row; a row's length is written out here too.
+pub fn fill_columns(page: &mut [u16], to: usize, len: usize, word: u16) -> bool
     requires { ⌜ to + len ≤ length (now page) ⌝ }
-    ensures { λ r. ⌜ Pasted (now (page .entry)) (now (page .exit)) to (map selectivelyErased (drop to (now (page .entry)))) len r ⌝ }
+    ensures { λ r. ⌜ Pasted (now (page .entry)) (now (page .exit)) to (replicate len word) len r ⌝ }
+{
+    if len == COLUMNS {
+        fill_words(page, to, COLUMNS, word)
+    } else {
+        fill_words(page, to, len, word)
+    }
+}
+
+// `len` words from `to` on change by what they hold.
+pub fn change_words(page: &mut [u16], to: usize, len: usize, change: CellChange) -> bool
+    requires { ⌜ to + len ≤ length (now page) ⌝ }
+    ensures { λ r. ⌜ Pasted (now (page .entry)) (now (page .exit)) to (map (changedBy change) (drop to (now (page .entry)))) len r ⌝ }
 {
     let mut changed = false;
     let mut k = 0;
     while k < len {
         let old = page[to + k];
-        let word = selectively_erase(old);
+        let word = changed_by(change, old);
         changed = changed | (old != word);
         page[to + k] = word;
         k += 1;

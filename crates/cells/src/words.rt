@@ -1,11 +1,15 @@
 // Cell words: a cell as 16 bits. Any word can be taken apart; a word that is made has its two unused bits zero.
 use crate::BLANK;
 use crate::Cell;
+use crate::CellChange;
 use crate::CharSet;
 use crate::Rendition;
+use crate::Setting;
+use crate::Styling;
 ghost use mathlib.Core.Path.{_≡_};
 ghost use Prim.Native.Nat.{_<_};
 ghost use Rattle.cells.specs.Cells.{setNumber, setOf, bit, flag, renditionBits, packed, unpacked, spaced, selectivelyErased};
+ghost use Rattle.cells.specs.Cells.{settingNumber, settingOf, stylingNumber, stylingOf, setBy, styled, restyled, changedBy};
 
 // Sets as numbers, and back. A number past the last counts as the last.
 pub fn set_number(set: CharSet) -> u8
@@ -93,12 +97,112 @@ pub fn space(word: u16) -> u16
 }
 
 // What selective erase makes of a word: a protected cell is kept.
-pub fn selectively_erase(word: u16) -> u16
+fn selectively_erase(word: u16) -> u16
     ensures { λ r. ⌜ r ≡ selectivelyErased word ⌝ }
 {
     if word / 8192 % 2 == 1 {
         word
     } else {
         space(word)
+    }
+}
+
+// ---- attributes that change
+
+fn set_by(setting: Setting, on: bool) -> bool
+    ensures { λ r. ⌜ r ≡ setBy setting on ⌝ }
+{
+    match setting {
+        Setting::Same => on,
+        Setting::On => true,
+        Setting::Off => false,
+        Setting::Flipped => !on,
+    }
+}
+
+// Settings and stylings as numbers, and back: a digit of base 4 for each attribute.
+fn setting_number(setting: Setting) -> u8
+    ensures { λ r. ⌜ (r ≡ settingNumber setting) × (r < 4) ⌝ }
+{
+    match setting {
+        Setting::Same => 0,
+        Setting::On => 1,
+        Setting::Off => 2,
+        Setting::Flipped => 3,
+    }
+}
+
+fn setting_of(number: u8) -> Setting
+    ensures { λ r. ⌜ r ≡ settingOf number ⌝ }
+{
+    match number {
+        0 => Setting::Same,
+        1 => Setting::On,
+        2 => Setting::Off,
+        _ => Setting::Flipped,
+    }
+}
+
+pub fn styling_number(styling: Styling) -> u8
+    ensures { λ r. ⌜ r ≡ stylingNumber styling ⌝ }
+{
+    let bold = styling.bold;
+    let underline = styling.underline;
+    let blink = styling.blink;
+    let reverse = styling.reverse;
+    setting_number(bold)
+        + 4 * setting_number(underline)
+        + 16 * setting_number(blink)
+        + 64 * setting_number(reverse)
+}
+
+fn styling_of(number: u8) -> Styling
+    ensures { λ r. ⌜ r ≡ stylingOf number ⌝ }
+{
+    Styling {
+        bold: setting_of(number % 4),
+        underline: setting_of(number / 4 % 4),
+        blink: setting_of(number / 16 % 4),
+        reverse: setting_of(number / 64),
+    }
+}
+
+fn style(styling: Styling, rendition: Rendition) -> Rendition
+    ensures { λ r. ⌜ r ≡ styled styling rendition ⌝ }
+{
+    let bold = styling.bold;
+    let underline = styling.underline;
+    let blink = styling.blink;
+    let reverse = styling.reverse;
+    Rendition {
+        bold: set_by(bold, rendition.bold),
+        underline: set_by(underline, rendition.underline),
+        blink: set_by(blink, rendition.blink),
+        reverse: set_by(reverse, rendition.reverse),
+    }
+}
+
+// The word of the cell with other attributes: code, set and protection stay.
+fn restyle(styling: Styling, word: u16) -> u16
+    ensures { λ r. ⌜ r ≡ restyled styling word ⌝ }
+{
+    let cell = unpack(word);
+    let set = cell.set;
+    let rendition = cell.rendition;
+    pack(Cell {
+        code: cell.code,
+        set,
+        rendition: style(styling, rendition),
+        protected: cell.protected,
+    })
+}
+
+// What a change makes of a word.
+pub fn changed_by(change: CellChange, word: u16) -> u16
+    ensures { λ r. ⌜ r ≡ changedBy change word ⌝ }
+{
+    match change {
+        CellChange::SelectiveErase => selectively_erase(word),
+        CellChange::Restyle { styling } => restyle(styling_of(styling), word),
     }
 }

@@ -14,7 +14,7 @@ use Rattle.device.specs.Cursor.{place}
 
 -- modes off but cursor shown
 abbrev pub freshModes : Modes
-freshModes = record { insert = false; newline = false; origin = false; autowrap = false; shown = true; eightbit = false }
+freshModes = record { insert = false; newline = false; origin = false; autowrap = false; shown = true; eightbit = false; rectangle = false }
 
 abbrev pub freshSaved : Saved
 freshSaved = record { cursor = place 1 1; rendition = plain; origin = false; sets = freshSets; protected = false; shift = NoShift }

@@ -50,6 +50,7 @@ pub fn fresh_modes() -> Modes
         autowrap: false,
         shown: true,
         eightbit: false,
+        rectangle: false,
     }
 }
 

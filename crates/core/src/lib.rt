@@ -1,7 +1,9 @@
-// The state of the terminal but for the changed rows: fresh, whole, where things stop, and what a byte does to it.
+// The state of the terminal but for the changed rows: fresh, whole, where things stop, the cell that a byte puts, and what a
+// byte does to it.
 pub mod effects;
 pub mod fresh;
 pub mod geometry;
+pub mod glyphs;
 pub mod whole;
 
 use cells::Rendition;
@@ -18,7 +20,8 @@ pub struct Margins {
     pub bottom: u8,
 }
 
-// `shown` is the cursor's (DECTCEM); `eightbit` sends a reply's CSI as one byte (S8C1T).
+// `shown` is the cursor's (DECTCEM); `eightbit` sends a reply's CSI as one byte (S8C1T); with `rectangle` the
+// attributes of a rectangle are changed, else those of a stream (DECSACE).
 pub struct Modes {
     pub insert: bool,
     pub newline: bool,
@@ -26,6 +29,7 @@ pub struct Modes {
     pub autowrap: bool,
     pub shown: bool,
     pub eightbit: bool,
+    pub rectangle: bool,
 }
 
 // What ESC 7 saves (DECSC).

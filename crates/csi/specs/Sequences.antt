@@ -1,24 +1,26 @@
 -- Control sequences (SCOPE 5.23 to 5.46), where they are not ignored: dispatch/specs/Heard.antt says what is. Wrap due is in WrapDue.antt
 -- there. An intermediate or a mark that is not there is 0.
 use mathlib.Core.Bool.{Bool, true, false, cond, _||_}
-use mathlib.Core.List.{List, [], _∷_}
 use Prim.Native.Nat.{ℕ, _+_, _-_, _*_, min, max}
 use lib.Dec.{eqb, leb, ltb}
 use Rattle.cells.specs.declared.Rendition.{Rendition}
 use Rattle.page.specs.declared.Edit.{Edit}
-use Rattle.page.specs.declared.Edit.the-variants.{InsertCells, DeleteCells, ScrollUp, ScrollDown, Fill, SelectiveErase}
+use Rattle.page.specs.declared.Edit.the-variants.{InsertCells, DeleteCells, ScrollUp, ScrollDown, FillRange, ChangeRange}
+use Rattle.cells.specs.declared.CellChange.the-variants.{SelectiveErase}
 use Rattle.cells.specs.Cells.{plain, blank}
 use Rattle.parser.specs.declared.params.Params.{Params}
 use Rattle.core.specs.declared.Margins.{Margins}
 use Rattle.core.specs.declared.Core.{Core}
 use Rattle.core.specs.declared.Decision.{Decision}
+use Rattle.ground.specs.Folds.{folded}
 use Rattle.parser.specs.Params.{param, paramN, paramList}
-use Rattle.parser.specs.Families.{isPlain, isPrivate, isProtection, isSoftReset}
+use Rattle.parser.specs.Families.{isPlain, isPrivate, isProtection, isSoftReset, isRectangle, isExtent}
 use Rattle.device.specs.Tabs.{withoutTab, noTabs}
 use Rattle.device.specs.Cursor.{place, up, down, left, right, toColumn, offset}
 use Rattle.core.specs.Fresh.{freshCore}
 use Rattle.core.specs.Geometry.{leftStop, rightStop, topStop, bottomStop, firstRow, lastRow, home}
 use Rattle.core.specs.Modes.{withInsert, withNewline, withOrigin, withAutowrap, withShown}
+use Rattle.rectangles.specs.Functions.{rectangleEdit, selectExtent}
 use Rattle.core.specs.Effects.{withCursor, withMargins, withTabs, withModes, withRendition, withProtected, oneEdit, unedited}
 
 -- ---- moving the cursor
@@ -53,10 +55,10 @@ erased c s base end edit =
     oneEdit c (edit (cond (eqb s 0) at base) (cond (eqb s 1) (at + 1) end))
 
 abbrev pub toBlank : ℕ → ℕ → Edit
-toBlank a z = Fill a z blank
+toBlank a z = FillRange a z blank
 
 abbrev pub toSpace : ℕ → ℕ → Edit
-toSpace a z = SelectiveErase a z
+toSpace a z = ChangeRange a z SelectiveErase
 
 -- J (ED) in the page, K (EL) in the row; with ? selectively (DECSED, DECSEL)
 abbrev pub inPage : Core → ℕ → (ℕ → ℕ → Edit) → Decision
@@ -72,7 +74,7 @@ inRow c s edit = erased c s (rowStart c) (rowStart c + 80) edit
 abbrev pub eraseCharacters : Core → ℕ → Decision
 eraseCharacters c n =
     let at = offset (c .cursor) in
-    oneEdit c (Fill at (min (at + n) (rowStart c + 80)) blank)
+    oneEdit c (FillRange at (min (at + n) (rowStart c + 80)) blank)
 
 -- ---- inserting and deleting
 
@@ -102,10 +104,6 @@ abbrev pub deleteCharacters : Core → ℕ → Decision
 deleteCharacters c n = oneEdit c (DeleteCells (c .cursor .row - 1) (c .cursor .column - 1) (rightStop c) (min n (cellsRight c)))
 
 -- ---- tabs, modes, rendition, protection: h, l and m take all parameters in order
-
-abbrev pub folded : {A : Type 0} → (A → ℕ → A) → A → List ℕ → A
-folded f a [] = a
-folded f a (x ∷ xs) = folded f (f a x) xs
 
 -- g (TBC): 0 the tab here, 3 all
 abbrev pub clearTabs : Core → Params → Decision
@@ -185,7 +183,7 @@ marginsTaken c q = ltb (requestedMargins c q .top) (requestedMargins c q .bottom
 abbrev pub setMargins : Core → Params → Decision
 setMargins c q = let d = withMargins c (requestedMargins c q) in unedited (withCursor d (home d))
 
--- ! p (DECSTR): these fields from fresh; cursor, tabs, newline and reply width stay
+-- ! p (DECSTR): these fields from fresh; cursor, tabs, newline, reply width and extent stay
 unfoldable pub softReset : Core → Core
 softReset c =
     let f = freshCore (c .rows) in
@@ -201,6 +199,7 @@ softReset c =
         autowrap = f .modes .autowrap;
         shown = f .modes .shown;
         eightbit = c .modes .eightbit;
+        rectangle = c .modes .rectangle;
       };
       rendition = f .rendition;
       protected = f .protected;
@@ -244,11 +243,13 @@ privateSequence c q last =
     (cond (eqb last 0x6C) (modesSet true false c q)
     (unedited c))))
 
--- besides these DECSCA and DECSTR
+-- besides these DECSCA, DECSTR, the functions on rectangles and DECSACE
 unfoldable pub sequenced : Core → Params → ℕ → ℕ → ℕ → ℕ → Decision
 sequenced c q mark first second last =
     cond (isPlain mark first second) (plainSequence c q last)
     (cond (isPrivate mark first second) (privateSequence c q last)
     (cond (isProtection mark first second last) (selectProtection c q)
     (cond (isSoftReset mark first second last) (unedited (softReset c))
-    (unedited c))))
+    (cond (isRectangle mark first second) (oneEdit c (rectangleEdit c q last))
+    (cond (isExtent mark first second last) (selectExtent c q)
+    (unedited c))))))

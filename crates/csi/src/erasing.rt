@@ -1,5 +1,6 @@
 // Control sequences that erase. Margins don't matter.
 use cells::BLANK;
+use cells::CellChange;
 use core::Core;
 use core::Decision;
 use core::effects::one_edit;
@@ -42,7 +43,7 @@ fn erase(core: Core, selector: u16, base: u16, end: u16) -> Decision
     let range = selected(cursor, selector, base, end);
     one_edit(
         core,
-        Edit::Fill {
+        Edit::FillRange {
             from: range.from,
             to: range.to,
             word: BLANK,
@@ -59,9 +60,10 @@ fn erase_selectively(core: Core, selector: u16, base: u16, end: u16) -> Decision
     let range = selected(cursor, selector, base, end);
     one_edit(
         core,
-        Edit::SelectiveErase {
+        Edit::ChangeRange {
             from: range.from,
             to: range.to,
+            change: CellChange::SelectiveErase,
         },
     )
 }
@@ -118,7 +120,7 @@ pub fn erase_characters(core: Core, n: u16) -> Decision
     let count = capped(n, 81 - cursor.column);
     one_edit(
         core,
-        Edit::Fill {
+        Edit::FillRange {
             from,
             to: from + count as u16,
             word: BLANK,

@@ -195,7 +195,7 @@ pub fn set_margins(mut core: Core, params: Params) -> Decision
     unedited(core)
 }
 
-// ---- DECSTR: cursor, tabs, newline and reply width stay
+// ---- DECSTR: cursor, tabs, newline, reply width and extent stay
 
 pub fn soft_reset(core: Core) -> Core
     ensures { λ r. ⌜ r ≡ sequences.softReset core ⌝ }
@@ -218,6 +218,7 @@ pub fn soft_reset(core: Core) -> Core
             autowrap: false,
             shown: true,
             eightbit: core.modes.eightbit,
+            rectangle: core.modes.rectangle,
         },
         rendition: plain_rendition(),
         protected: false,

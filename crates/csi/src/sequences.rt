@@ -21,12 +21,17 @@ use crate::moves::cursor_right;
 use crate::moves::cursor_up;
 use core::Core;
 use core::Decision;
+use core::effects::one_edit;
 use core::effects::unedited;
+use parser::families::is_extent;
 use parser::families::is_plain;
 use parser::families::is_private;
 use parser::families::is_protection;
+use parser::families::is_rectangle;
 use parser::families::is_soft_reset;
 use parser::params::Params;
+use rectangles::functions::rectangle_edit;
+use rectangles::functions::select_extent;
 ghost use mathlib.Core.Path.{_≡_};
 ghost use mathlib.Core.Bool.{true};
 ghost use Rattle.parser.specs.Families.{isPlain};
@@ -90,6 +95,12 @@ pub fn sequence(core: Core, params: Params, mark: u8, first: u8, second: u8, las
     }
     if is_soft_reset(mark, first, second, last) {
         return unedited(soft_reset(core));
+    }
+    if is_rectangle(mark, first, second) {
+        return one_edit(core, rectangle_edit(core, params, last));
+    }
+    if is_extent(mark, first, second, last) {
+        return select_extent(core, params);
     }
     unedited(core)
 }

@@ -4,8 +4,9 @@ use Prim.Native.Nat.{ℕ, _/_, _%_, _^_, _<_, _-_}
 use native.Mathlib.Omega.{arith}
 use Rattle.cells.specs.Cells.{unpacked}
 use Rattle.cells.proofs.CellLaws.{cell-back, same-word, packed-small, set-at, blank-packed, erased-protected, erased-other, spaced-back, spaced-small}
-use Rattle.demands.specs.Representation.{CellBack, SameWord, UnusedZero, DocumentedBits, BlankWord, SelectiveErasure, TenBytes, TabSet, TabCleared}
-use Rattle.demands.specs.Representation.{TabsNone, TabsFresh, TabNext, Decimals}
+use Rattle.cells.proofs.CellLaws.{restyled-back, restyled-small}
+use Rattle.demands.specs.Representation.{CellBack, SameWord, UnusedZero, DocumentedBits, BlankWord, SelectiveErasure, Restyling, TenBytes, TabSet}
+use Rattle.demands.specs.Representation.{TabCleared, TabsNone, TabsFresh, TabNext, Decimals}
 use Rattle.device.proofs.TabLaws as tabs
 use Rattle.ground.proofs.DecimalLaws.{decimal-value, decimal-digits, decimal-first, some-digit, decimal-length}
 use Rattle.core.specs.Fresh.{freshCore}
@@ -42,6 +43,9 @@ selective-erase-leaves w = record {
   cell = λ e. ap unpacked (erased-other w e) ∙ spaced-back w;
   unused = λ e. subst (λ (v : ℕ). v < 2 ^ 14) (sym (erased-other w e)) (spaced-small w);
 }
+
+pub restyling-leaves : Restyling
+restyling-leaves s w = record { cell = restyled-back s w; unused = restyled-small s w }
 
 -- ---- tabs
 

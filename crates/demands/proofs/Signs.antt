@@ -7,7 +7,7 @@ use Rattle.cells.specs.Cells.{blank, Printable}
 use Rattle.cells.specs.Rows.{Every}
 use Rattle.page.specs.Edits.{applied, entering}
 use Rattle.page.specs.declared.Edit.{Edit}
-use Rattle.cells.proofs.CellLaws.{blank-printable, erased-printable}
+use Rattle.cells.proofs.CellLaws.{blank-printable, changed-printable}
 use Rattle.page.proofs.EnteringLaws.{every-applied}
 use Rattle.cells.proofs.EveryLaws.{every-weaker, every-take, every-replicate}
 use Rattle.dispatch.specs.Decide.{decided}
@@ -28,7 +28,7 @@ abbrev Clean : Model → Type 0
 Clean m = Every Printable (m .page)
 
 edit-clean : (n : ℕ) (e : Edit) (p : List ℕ) → Printable (entering e) → Every Printable p → Every Printable (applied n e p)
-edit-clean = every-applied Printable blank-printable erased-printable
+edit-clean = every-applied Printable blank-printable changed-printable
 
 byte-clean : (m : Model) (b : ℕ) → b < 256 → Clean m → Clean (byte m b)
 unfolding byte

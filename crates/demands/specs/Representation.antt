@@ -7,7 +7,8 @@ use Prim.Native.Nat.{ℕ, _/_, _%_, _^_, _<_, _≤_}
 use lib.ListN.{getD, length}
 use Rattle.cells.specs.declared.CharSet.the-variants.{Ascii, SpecialGraphics, Supplemental, Latin1}
 use Rattle.cells.specs.declared.Cell.{Cell}
-use Rattle.cells.specs.Cells.{packed, unpacked, plainCell, blank, selectivelyErased}
+use Rattle.cells.specs.declared.Styling.{Styling}
+use Rattle.cells.specs.Cells.{packed, unpacked, plainCell, blank, selectivelyErased, styled, restyled}
 use Rattle.cells.specs.Sets.{hasBit}
 use mathlib.Core.Logic.{_↔_}
 use lib.Dec.{eqb}
@@ -57,6 +58,15 @@ pub record Erased (w v : ℕ) : Type 0 where
 
 abbrev pub SelectiveErasure : Type 0
 SelectiveErasure = (w : ℕ) → Erased w (selectivelyErased w)
+
+-- Other attributes leave code, set and protection, and the unused bits are zero.
+pub record Restyled (s : Styling) (w v : ℕ) : Type 0 where
+  pub cell : unpacked v
+      ≡ record { code = unpacked w .code; set = unpacked w .set; rendition = styled s (unpacked w .rendition); protected = unpacked w .protected }
+  pub unused : v < 2 ^ 14
+
+abbrev pub Restyling : Type 0
+Restyling = (s : Styling) (w : ℕ) → Restyled s w (restyled s w)
 
 -- ---- tabs
 

@@ -126,7 +126,15 @@ allElse s =
     let c = s .core in
     let drawn : Rendition = record { bold = true; underline = true; blink = true; reverse = true } in
     let sets : Sets = record { g0 = Latin1; g1 = SpecialGraphics; g2 = Latin1; g3 = Latin1; gl = G3; gr = G0 } in
-    let modes : Modes = record { insert = true; newline = true; origin = c .modes .origin; autowrap = c .modes .autowrap; shown = false; eightbit = true } in
+    let modes : Modes = record {
+      insert = true;
+      newline = true;
+      origin = c .modes .origin;
+      autowrap = c .modes .autowrap;
+      shown = false;
+      eightbit = true;
+      rectangle = true;
+    } in
     let saved : Saved = record { cursor = c .saved .cursor; rendition = drawn; origin = true; sets = sets; protected = true; shift = Ss2 } in
     onCore (λ c. coreFrom (c .rows) (c .cursor) (c .margins) noTabs modes drawn true sets Ss3 saved (c .parser)) s
 

@@ -12,12 +12,16 @@ use Rattle.device.specs.declared.sending.Reply.the-variants.{SecondaryAttribute
 use Rattle.core.specs.declared.Core.{Core}
 use Rattle.vt.specs.Controls.{controlled, c1Controlled}
 use Rattle.vt.specs.Escapes.{escaped}
-use Rattle.core.specs.Effects.{unedited}
+use Rattle.core.specs.Effects.{oneEdit, unedited}
 use Rattle.parser.specs.Params.{param, member}
-use Rattle.parser.specs.Families.{isPlain, isPrivate, isProtection, isSoftReset}
+use Rattle.parser.specs.Families.{isPlain, isPrivate, isProtection, isSoftReset, isRectangle, isExtent}
+use Rattle.page.specs.declared.Edit.{Edit}
+use Rattle.rectangles.specs.Areas.{areaAt, isTaken}
+use Rattle.rectangles.specs.Functions.{rectangleEdit, selectExtent}
 use Rattle.csi.specs.Sequences.{marginsTaken, selectProtection, softReset, plainSequence, privateSequence, sequenced}
 use Rattle.ground.proofs.TestLaws.{or-left, or-right, either, at-number}
-use Rattle.dispatch.specs.Heard.{controls, c1Controls, plainEscapes, names94, listedEscape, plainFinals, privateFinals, isSecondary, listedSequence}
+use Rattle.dispatch.specs.Heard.{controls, c1Controls, plainEscapes, names94, listedEscape, plainFinals, privateFinals}
+use Rattle.dispatch.specs.Heard.{rectangleFinals, isSecondary, listedRest, listedSequence}
 use Rattle.dispatch.specs.Heard.{isListed, plainIgnored, privateIgnored, ignoredSequence, isIgnored, unlessIgnored, isHeard, heard}
 use Rattle.dispatch.specs.WrapDue.{clearsWrap}
 use Rattle.dispatch.specs.Replies.{plainReply, privateReply, reply, replyTo}
@@ -80,21 +84,29 @@ plain-unedited c q last h = simp (other plainFinals last h)
 private-unedited : (c : Core) (q : Params) (last : ℕ) → member last privateFinals ≡ false → privateSequence c q last ≡ unedited c
 private-unedited c q last h = simp (other privateFinals last h)
 
+rectangle-unedited : (c : Core) (q : Params) (last : ℕ) → member last rectangleFinals ≡ false → oneEdit c (rectangleEdit c q last) ≡ unedited c
+rectangle-unedited c q last h =
+    either (λ (e : Edit). oneEdit c e ≡ unedited c) (isTaken (areaAt c q (cond (eqb last 0x78) 1 0))) (λ _. simp (other rectangleFinals last h)) (λ _. refl)
+
 sequence-unedited : (c : Core) (q : Params) (mark first second last : ℕ) → listedSequence mark first second last ≡ false
     → sequenced c q mark first second last ≡ unedited c
 unfolding sequenced
 sequence-unedited c q mark first second last =
     go (isPlain mark first second) (isPrivate mark first second)
     (isSecondary mark first second last) (isProtection mark first second last) (isSoftReset mark first second last)
+    (isRectangle mark first second) (isExtent mark first second last)
   where
-    go : (i j s p r : Bool) → cond i (member last plainFinals) (cond j (member last privateFinals) (cond s true (cond p true r))) ≡ false
-        → cond i (plainSequence c q last) (cond j (privateSequence c q last) (cond p (selectProtection c q) (cond r (unedited (softReset c)) (unedited c))))
-        ≡ unedited c
-    go true j s p r h = plain-unedited c q last h
-    go false true s p r h = private-unedited c q last h
-    go false false true p r h = absurd (false≢true (sym h))
-    go false false false true r h = absurd (false≢true (sym h))
-    go false false false false r h = rw h
+    go : (i j s p r x e : Bool)
+        → cond i (member last plainFinals) (cond j (member last privateFinals) (s || (p || (r || ((x && member last rectangleFinals) || e))))) ≡ false
+        → cond i (plainSequence c q last) (cond j (privateSequence c q last) (cond p (selectProtection c q) (cond r (unedited (softReset c))
+        (cond x (oneEdit c (rectangleEdit c q last)) (cond e (selectExtent c q) (unedited c)))))) ≡ unedited c
+    go true j s p r x e h = plain-unedited c q last h
+    go false true s p r x e h = private-unedited c q last h
+    go false false true p r x e h = absurd (false≢true (sym h))
+    go false false false true r x e h = absurd (false≢true (sym h))
+    go false false false false true x e h = absurd (false≢true (sym h))
+    go false false false false false true e h = rectangle-unedited c q last (or-left (member last rectangleFinals) e h)
+    go false false false false false false e h = rw h
 
 pub unlisted-unedited : (c : Core) (a : Action) → isListed a ≡ false → effect c a ≡ unedited c
 unlisted-unedited c Nothing h = refl
@@ -159,19 +171,19 @@ unheard-silent c (C1Control b) h = at-number P b 0x9A (λ h. absurd (false≢tru
 unheard-silent c (EscapeSequence first second last) h = refl
 unheard-silent c (ControlSequence mark first second last) h =
     go (isPlain mark first second) (isPrivate mark first second)
-    (isSecondary mark first second last) (isProtection mark first second last) (isSoftReset mark first second last) h
+    (isSecondary mark first second last) (listedRest mark first second last) h
   where
     q : Params
     q = c .parser .params
 
-    go : (i j s p r : Bool)
-        → (cond i (member last plainFinals) (cond j (member last privateFinals) (cond s true (cond p true r)))
+    go : (i j s t : Bool)
+        → (cond i (member last plainFinals) (cond j (member last privateFinals) (s || t))
         && not (cond i (plainIgnored c q last) (j && privateIgnored q last))) ≡ false
         → cond i (plainReply c q last) (cond j (privateReply c q last) (cond (s && eqb (param q 0) 0) SecondaryAttributes Silent)) ≡ Silent
-    go true j s p r h = plain-silent c q last h
-    go false true s p r h = private-silent c q last h
-    go false false true p r h = absurd (false≢true (sym h))
-    go false false false p r h = refl
+    go true j s t h = plain-silent c q last h
+    go false true s t h = private-silent c q last h
+    go false false true t h = absurd (false≢true (sym h))
+    go false false false t h = refl
 
 pub reply-heard : (c : Core) (a : Action) → reply c a ≡ replyTo c a
 unfolding replyTo

@@ -10,10 +10,10 @@ use Rattle.parser.specs.declared.parser.Action.{Action}
 use Rattle.parser.specs.declared.parser.Action.the-variants.{Nothing}
 use Rattle.core.specs.declared.Core.{Core}
 use Rattle.parser.specs.Params.{member}
-use Rattle.parser.specs.Families.{isProtection, isSoftReset}
+use Rattle.parser.specs.Families.{isProtection, isSoftReset, isRectangle, isExtent}
 use Rattle.ground.proofs.TestLaws.{and-left, and-right, at-number}
-use Rattle.dispatch.specs.Heard.{plainEscapes, listedEscape, privateFinals, isSecondary, isListed, isIgnored}
-use Rattle.dispatch.specs.WrapDue.{keepingEscapes, escapeKeeps, privateKeeps, keepsWrap, clearsWrap}
+use Rattle.dispatch.specs.Heard.{plainEscapes, listedEscape, privateFinals, rectangleFinals, isSecondary, listedRest, isListed, isIgnored}
+use Rattle.dispatch.specs.WrapDue.{keepingEscapes, escapeKeeps, privateKeeps, otherKeeps, keepsWrap, clearsWrap}
 
 -- ---- two tests that agree at each number below n
 
@@ -72,29 +72,28 @@ private-rest q last n1 n2 n3 n4 =
     go false false true c = refl
     go false false false c = refl
 
--- of CSI > c, " q and ! p only ! p clears it
+-- of those that are neither plain nor private, only ! p clears it
 pub others-clear : (mark first second last : ℕ) → isSoftReset mark first second last
-    ≡ (cond (isSecondary mark first second last) true (cond (isProtection mark first second last) true (isSoftReset mark first second last))
-    && not (isSecondary mark first second last || isProtection mark first second last))
+    ≡ ((isSecondary mark first second last || listedRest mark first second last) && not (otherKeeps mark first second last))
 others-clear mark first second last =
-    at-number P first 0x21 (simp (and-false, and-true))
-    (λ n. rw (ne-eqb first 0x21 n) (simp and-false (go (isSecondary mark first second last) (isProtection mark first second last))))
+    at-number P first 0x21 (simp (and-false, and-true, or-false))
+    (λ n. rw (ne-eqb first 0x21 n) (simp and-false
+    (go (isSecondary mark first second last) (isProtection mark first second last) (isRectangle mark first second) (isExtent mark first second last))))
   where
     P : ℕ → Type 0
-    P x = isSoftReset mark x second last
-        ≡ (cond (isSecondary mark x second last) true (cond (isProtection mark x second last) true (isSoftReset mark x second last))
-        && not (isSecondary mark x second last || isProtection mark x second last))
+    P x = isSoftReset mark x second last ≡ ((isSecondary mark x second last || listedRest mark x second last) && not (otherKeeps mark x second last))
 
-    go : (s p : Bool) → false ≡ (cond s true (cond p true false) && not (s || p))
-    go true p = refl
-    go false true = refl
-    go false false = refl
+    go : (s p x e : Bool) → false ≡ ((s || (p || ((x && member last rectangleFinals) || e))) && not ((s || p) || (x || e)))
+    go true p x e = refl
+    go false true x e = refl
+    go false false true e = simp and-false
+    go false false false true = refl
+    go false false false false = refl
 
-pub reset-clears : (mark first second last : ℕ) → isSoftReset mark first second last ≡ true
-    → not (isSecondary mark first second last || isProtection mark first second last) ≡ true
+pub reset-clears : (mark first second last : ℕ) → isSoftReset mark first second last ≡ true → not (otherKeeps mark first second last) ≡ true
 reset-clears mark first second last e =
-    and-right (cond (isSecondary mark first second last) true (cond (isProtection mark first second last) true (isSoftReset mark first second last)))
-    (not (isSecondary mark first second last || isProtection mark first second last)) (sym (others-clear mark first second last) ∙ e)
+    and-right (isSecondary mark first second last || listedRest mark first second last) (not (otherKeeps mark first second last))
+    (sym (others-clear mark first second last) ∙ e)
 
 -- ---- the policy, of what is not ignored
 

@@ -9,7 +9,7 @@ use Rattle.parser.specs.declared.parser.Action.{Action}
 use Rattle.parser.specs.declared.parser.Action.the-variants.{Nothing, Character, Substitute, Control, C1Control, EscapeSequence, ControlSequence}
 use Rattle.core.specs.declared.Core.{Core}
 use Rattle.parser.specs.Params.{param, member}
-use Rattle.parser.specs.Families.{isPlain, isPrivate, isProtection, isSoftReset}
+use Rattle.parser.specs.Families.{isPlain, isPrivate, isProtection, isSoftReset, isRectangle, isExtent}
 use Rattle.csi.specs.Sequences.{marginsTaken}
 
 -- ---- what is listed
@@ -56,14 +56,21 @@ privateFinals = 0x4A ∷ 0x4B ∷ 0x68 ∷ 0x6C ∷ 0x6E ∷ []
 abbrev pub isSecondary : ℕ → ℕ → ℕ → ℕ → Bool
 isSecondary mark first second last = (eqb mark 0x3E && (eqb first 0 && eqb second 0)) && eqb last 0x63
 
--- CSI > c, CSI " q and CSI ! p besides
+-- CSI $ r, t, v, x, z, {
+abbrev pub rectangleFinals : List ℕ
+rectangleFinals = 0x72 ∷ 0x74 ∷ 0x76 ∷ 0x78 ∷ 0x7A ∷ 0x7B ∷ []
+
+-- CSI " q, CSI ! p, those on rectangles and CSI * x
+abbrev pub listedRest : ℕ → ℕ → ℕ → ℕ → Bool
+listedRest mark first second last =
+    isProtection mark first second last || (isSoftReset mark first second last
+    || ((isRectangle mark first second && member last rectangleFinals) || isExtent mark first second last))
+
 abbrev pub listedSequence : ℕ → ℕ → ℕ → ℕ → Bool
 listedSequence mark first second last =
     cond (isPlain mark first second) (member last plainFinals)
     (cond (isPrivate mark first second) (member last privateFinals)
-    (cond (isSecondary mark first second last) true
-    (cond (isProtection mark first second last) true
-    (isSoftReset mark first second last))))
+    (isSecondary mark first second last || listedRest mark first second last))
 
 -- printing, and what is nothing already, is heard as it is
 abbrev pub isListed : Action → Bool

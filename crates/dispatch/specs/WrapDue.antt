@@ -10,7 +10,7 @@ use Rattle.parser.specs.declared.parser.Action.the-variants.{Nothing, Character
 use Rattle.core.specs.declared.Core.{Core}
 use Rattle.core.specs.declared.Decision.{Decision}
 use Rattle.parser.specs.Params.{paramList, member}
-use Rattle.parser.specs.Families.{isPlain, isPrivate, isProtection}
+use Rattle.parser.specs.Families.{isPlain, isPrivate, isProtection, isRectangle, isExtent}
 use Rattle.device.specs.Cursor.{noWrap}
 use Rattle.core.specs.Effects.{withCursor}
 use Rattle.dispatch.specs.Heard.{isSecondary, heard}
@@ -45,12 +45,16 @@ privateKeeps q last =
     (cond (eqb last 0x6C) (not (member 6 (paramList q) || member 7 (paramList q)))
     (member last keepingFinals))
 
--- CSI > c and CSI " q besides
+-- besides CSI > c, CSI " q, those on rectangles and CSI * x
+abbrev pub otherKeeps : ℕ → ℕ → ℕ → ℕ → Bool
+otherKeeps mark first second last =
+    (isSecondary mark first second last || isProtection mark first second last) || (isRectangle mark first second || isExtent mark first second last)
+
 abbrev pub sequenceKeeps : Params → ℕ → ℕ → ℕ → ℕ → Bool
 sequenceKeeps q mark first second last =
     cond (isPlain mark first second) (member last keepingFinals)
     (cond (isPrivate mark first second) (privateKeeps q last)
-    (isSecondary mark first second last || isProtection mark first second last))
+    (otherKeeps mark first second last))
 
 -- printing sets it by itself
 abbrev pub keepsWrap : Params → Action → Bool

@@ -8,7 +8,7 @@ use Prim.Native.Char.{code}
 use Prim.Native.String.{String}
 use lib.Dec.{eqb}
 use lib.ListN.{length, take, drop, replicate}
-use Rattle.cells.specs.Cells.{packed, unpacked, spaced, selectivelyErased}
+use Rattle.cells.specs.Cells.{packed, unpacked, spaced, selectivelyErased, stylingNumber, stylingOf, restyled}
 use Rattle.cells.specs.Rows.{joined}
 use Rattle.cells.specs.Sets.{bitsOf, added, sizeOf}
 use Rattle.page.specs.Edits.{applied}
@@ -20,6 +20,8 @@ use Rattle.core.specs.Whole.{wholeCore}
 use Rattle.vt.specs.Printing.{put, printed, substituted}
 use Rattle.vt.specs.Controls.{controlled, c1Controlled}
 use Rattle.vt.specs.Escapes.{escaped}
+use Rattle.rectangles.specs.Areas.{areaAt}
+use Rattle.rectangles.specs.Attributes.{changeBy, reverseBy, restylingOf}
 use Rattle.csi.specs.Sequences.{rendered, softReset, sequenced}
 use Rattle.dispatch.specs.WrapDue.{clearsWrap}
 use Rattle.dispatch.specs.Replies.{replyTo}
@@ -132,8 +134,9 @@ begun = record { state = fresh 24; page = blankPage 24 }
 -- an example holds
 unfoldable pub holds : List Line → Bool
 unfolding packed unpacked spaced selectivelyErased joined bitsOf added sizeOf applied withDigit withSeparator transition decode withTab withoutTab
-    nextAmong freshCore wholeCore put printed substituted controlled c1Controlled escaped rendered softReset sequenced clearsWrap replyTo digitsIn
-    decimal replyBytes executed decided sends acted stepped ran sent readable wholeState fed asked
+    nextAmong freshCore wholeCore put printed substituted controlled c1Controlled escaped rendered softReset sequenced areaAt changeBy reverseBy
+    restylingOf stylingNumber stylingOf restyled clearsWrap replyTo digitsIn decimal replyBytes
+    executed decided sends acted stepped ran sent readable wholeState fed asked
 holds ls = goes begun ls
 
 -- ---- SCOPE 11.1 to 11.10: fresh, R = 24
@@ -233,6 +236,24 @@ savedShift = send "\u{8e}\u{1b}7a\u{1b}8bc" ∷ words 1 1 (0x0162 ∷ 0x0063 ∷
     ∷ send "\u{1b}7\u{8f}\u{1b}8e" ∷ words 1 1 (0x0065 ∷ 0x0063 ∷ [])
     ∷ send "\u{8e}\u{1b}7\u{1b}[!p\u{8f}\u{1b}8f" ∷ words 1 1 (0x0066 ∷ 0x0063 ∷ []) ∷ []
 
+-- A fill, and a copy to the right over itself; another is cut off at the page's edge. Cursor and wrap due stay.
+abbrev pub rectanglePainted : List Line
+rectanglePainted = send "\u{1b}[?7hABC\u{1b}[3;80Hw\u{1b}[35;1;3;2;4$x" ∷ text 1 1 "AB## " ∷ text 2 1 "  ## " ∷ cursor 3 80 true ∷ rows (1 ∷ 2 ∷ 3 ∷ [])
+    ∷ send "\u{1b}[1;1;1;3;1;1;2;1$v" ∷ text 1 1 "AAB# " ∷ send "\u{1b}[1;2;2;4;;24;79$v" ∷ text 24 78 " AB" ∷ rows (1 ∷ 24 ∷ [])
+    ∷ send "\u{1b}[1;2;1;2$z\u{1b}[;;;;2$v\u{1b}[127;$xX" ∷ text 1 1 "A B# " ∷ text 4 1 "X " ∷ rows (1 ∷ 4 ∷ []) ∷ []
+
+-- An edge of 0 is the page's own with origin on too, others count from T and are held to the page; then a top below the bottom is ignored.
+abbrev pub rectangleEdges : List Line
+rectangleEdges = send "\u{1b}[5;10r\u{1b}[?6h\u{1b}[42;;80;1$x" ∷ text 1 80 "*" ∷ text 5 80 "*" ∷ text 6 80 " " ∷ rows (1 ∷ 2 ∷ 3 ∷ 4 ∷ 5 ∷ [])
+    ∷ send "\u{1b}[43;99;79;30;99$x" ∷ text 24 78 " ++" ∷ rows (24 ∷ []) ∷ send "\u{1b}[3;1;2;80$z\u{1b}[1;80;24;79$z" ∷ rows [] ∷ []
+
+-- Attributes are taken in order, in a stream or in a rectangle; unlisted ones alone are ignored.
+abbrev pub rectangleStyled : List Line
+rectangleStyled = send "AB\r\nCD\u{1b}[1;2;2;2;1;4;22$r" ∷ words 1 1 (0x0041 ∷ 0x0442 ∷ 0x0420 ∷ []) ∷ words 2 1 (0x0443 ∷ 0x0444 ∷ 0x0020 ∷ [])
+    ∷ rows (1 ∷ 2 ∷ []) ∷ send "\u{1b}[2*x\u{1b}[!p\u{1b}[1;1;2;1;0;1$t" ∷ words 1 1 (0x1C41 ∷ 0x0442 ∷ []) ∷ words 2 1 (0x1843 ∷ 0x0444 ∷ [])
+    ∷ rows (1 ∷ 2 ∷ []) ∷ send "\u{1b}[;;;;22;99$t" ∷ rows [] ∷ send "\u{1b}[1;1;1;1$r\u{1b}[2;1;2;1${" ∷ words 1 1 (0x0041 ∷ [])
+    ∷ words 2 1 (0x1820 ∷ []) ∷ []
+
 -- A mark not in first place, three intermediates, a digit after an intermediate: ignored through the final.
 abbrev pub spoilt : List Line
 spoilt = send "\u{1b}[1?JA\u{1b}[!!!pB\u{1b}[!0pC\u{1b}(((0D" ∷ text 1 1 "ABCD " ∷ []
@@ -256,7 +277,7 @@ abbrev pub table : List (List Line)
 table =
     p1 ∷ p2 ∷ p3 ∷ p4 ∷ p5 ∷ p6a ∷ p6b ∷ p7a ∷ p7b ∷ p8 ∷ p9 ∷ p10
     ∷ edgeOff ∷ edgeOn ∷ cutBetweenCalls ∷ extendedReport ∷ stopsBefore ∷ scrolled ∷ selective ∷ restored ∷ savedProtection ∷ savedShift
-    ∷ spoilt ∷ manyParameters ∷ resetRules ∷ roomLeft
+    ∷ rectanglePainted ∷ rectangleEdges ∷ rectangleStyled ∷ spoilt ∷ manyParameters ∷ resetRules ∷ roomLeft
     ∷ []
 
 abbrev pub allHold : List (List Line) → Bool

@@ -1,4 +1,5 @@
 pub mod Tests
+pub mod Folds
 pub mod Writes
 pub mod Decimals
 pub mod Spans

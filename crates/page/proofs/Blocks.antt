@@ -11,8 +11,9 @@ use lib.ListN.{take, drop, replicate, length-take, length-drop, length-replicate
 use lib.Seq.{paste, paste-zero, getD-take, getD-drop, ext-getD}
 use borrow.Author.Tests.{eq-eqb, ne-eqb, eqb-true}
 use Rattle.cells.specs.Rows.{row}
-use Rattle.page.specs.Edits.{blankRow, overlaid, rangeStart, rangeLength, inRange}
-use Rattle.page.specs.Writes.{Redone}
+use Rattle.page.specs.declared.Edit.the-variants.{CopyRectangle}
+use Rattle.page.specs.Edits.{blankRow, overlaid, overlaidFrom, rangeStart, rangeLength, inRange}
+use Rattle.page.specs.Writes.{Redone, Edited}
 use Rattle.ground.proofs.ListLaws.{split-eq}
 use Rattle.cells.proofs.Differing.{paste-ext}
 use Rattle.ground.proofs.TestLaws.{either}
@@ -60,6 +61,20 @@ block-all {p} {q} {a} {e} {a'} {e'} {g} R ea ee = redone-as R (inRange a' e') g 
 -- a row outside the block is what it was
 pub block-old : {p q : List ℕ} {a e : ℕ} {g : ℕ → List ℕ} {bits : ℕ} → Redone p q (inRange a e) g bits → (j : ℕ) → (j < a) ⊎ (e ≤ j) → row q j ≡ row p j
 block-old {p} {q} {a} {e} R j o = redone-old R j (off-range a e j o)
+
+-- an edit that makes each row of a block anew
+pub block-edited : {p q : List ℕ} {a e : ℕ} {g : ℕ → List ℕ} {bits : ℕ} → Redone p q (inRange a e) g bits → (h : ℕ → List ℕ)
+    → ((j : ℕ) → a ≤ j → j < e → g j ≡ h j) → Redone p q (λ j. true) (λ j. cond (inRange a e j) (h j) (row p j)) bits
+block-edited {p} {q} {a} {e} {g} R h same =
+    redone-as R (λ j. true) (λ j. cond (inRange a e j) (h j) (row p j))
+    (λ j. either (λ x. x ≡ cond (inRange a e j) (h j) (row p j)) (inRange a e j)
+    (λ i. let b = of-range a e j i in rw i (same j (b .0) (b .1)))
+    (λ o. rw o))
+
+-- rows that are copied: each takes the one as far from the source's first as it is from its own block's
+pub block-copied : {p q : List ℕ} {t e bits : ℕ} (a z r c : ℕ) (from : ℕ → ℕ) → ((j : ℕ) → t ≤ j → j < e → from j ≡ j - t + r)
+    → Redone p q (inRange t e) (λ j. overlaidFrom (row p j) a z (row p (from j)) c) bits → Edited (CopyRectangle t e a z r c) p q bits
+block-copied {p} a z r c from is R = block-edited R _ (λ j l h. ap (λ (i : ℕ). overlaidFrom (row p j) a z (row p i) c) (is j l h))
 
 -- ---- from the first row of a block to its last
 

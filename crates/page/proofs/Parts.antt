@@ -11,13 +11,14 @@ use lib.ListN.{length, getD, take, drop, set, replicate, length-take, length-dro
 use lib.Seq.{paste, paste-zero, length-paste, take-append-add, take-all, set-split, append-snoc}
 use borrow.Author.Tests.{leb-true, ltb-true, eqb-false}
 use Rattle.page.specs.declared.Edit.{Edit}
-use Rattle.page.specs.declared.Edit.the-variants.{Keep, Put, InsertCells, DeleteCells, ScrollUp, ScrollDown, Fill, SelectiveErase}
-use Rattle.cells.specs.Cells.{blank, selectivelyErased}
+use Rattle.page.specs.declared.Edit.the-variants.{Keep, Put, InsertCells, DeleteCells, ScrollUp, ScrollDown}
+use Rattle.page.specs.declared.Edit.the-variants.{FillRange, ChangeRange, FillRectangle, ChangeRectangle, CopyRectangle}
+use Rattle.cells.specs.Cells.{blank, changedBy}
 use Rattle.cells.specs.Rows.{row}
-use Rattle.page.specs.Edits.{blankRow, inserted, deleted, overlaid, rangeStart, rangeLength, after, inRange, target, Within}
+use Rattle.page.specs.Edits.{blankRow, inserted, deleted, overlaid, overlaidFrom, changedRow, rangeStart, rangeLength, after, inRange, target, Within}
 use Rattle.ground.proofs.ListLaws.{split-lt, paste-outside}
 use Rattle.cells.proofs.RowLaws.{length-row}
-use Rattle.page.proofs.Ranges.{not-in-range}
+use Rattle.page.proofs.Ranges.{of-range, not-in-range}
 
 -- ---- cells that move within a row, as a paste
 
@@ -138,10 +139,19 @@ module _ (n : ℕ) (p : List ℕ) (hp : length p ≡ 80 * n) (k : ℕ) (hk : k <
       let l = source-row p (leb (t + m) k) (k - m) (λ s. let l = leb-true (t + m) k s in omega arith) in
       cells-part (row p k) _ (drop a (cond (leb (t + m) k) (row p (k - m)) blankRow)) a z (omega arith) (omega arith) long (simp length-drop (omega arith))
       refl)
-  part (Fill a z v) w = range-part (row p k) (replicate (rangeLength a z k) v) a z k (omega arith) long (simp length-replicate (omega arith))
-  part (SelectiveErase a z) w =
+  part (FillRange a z v) w = range-part (row p k) (replicate (rangeLength a z k) v) a z k (omega arith) long (simp length-replicate (omega arith))
+  part (ChangeRange a z m) w =
       let l = long in
-      range-part (row p k) (map selectivelyErased (drop (rangeStart a k) (row p k))) a z k (omega arith) l (simp (length-map, length-drop) (omega arith))
+      range-part (row p k) (map (changedBy m) (drop (rangeStart a k) (row p k))) a z k (omega arith) l (simp (length-map, length-drop) (omega arith))
+  part (FillRectangle t e a z v) w = if-part (inRange t e k) (row p k) (overlaid (row p k) a z (replicate 80 v)) (inRange a z) (λ b.
+      cells-part (row p k) _ (drop a (replicate 80 v)) a z (omega arith) (omega arith) long (simp (length-drop, length-replicate) (omega arith)) refl)
+  part (ChangeRectangle t e a z m) w = if-part (inRange t e k) (row p k) (changedRow m (row p k) a z) (inRange a z) (λ b.
+      let l = long in
+      cells-part (row p k) _ (map (changedBy m) (drop a (row p k))) a z (omega arith) (omega arith) l (simp (length-map, length-drop) (omega arith)) refl)
+  part (CopyRectangle t e a z r c) w = if-part (inRange t e k) (row p k) (overlaidFrom (row p k) a z (row p (k - t + r)) c) (inRange a z) (λ b.
+      let i = of-range t e k b in
+      let l = length-row p (k - t + r) (omega arith) in
+      cells-part (row p k) _ (drop c (row p (k - t + r))) a z (omega arith) (omega arith) long (simp length-drop (omega arith)) refl)
 
 -- each row after an edit that stays on the page is a row
 pub length-after : (n : ℕ) (e : Edit) (p : List ℕ) → length p ≡ 80 * n → Within n e → (k : ℕ) → k < n → length (after e (row p) k) ≡ 80

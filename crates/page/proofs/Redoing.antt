@@ -14,7 +14,7 @@ use Rattle.cells.specs.Cells.{bit}
 use Rattle.cells.specs.Rows.{row, differs}
 use Rattle.page.specs.declared.Edit.{Edit}
 use Rattle.page.specs.declared.Edit.the-variants.{Keep}
-use Rattle.page.specs.Edits.{overlaid}
+use Rattle.page.specs.Edits.{overlaidFrom}
 use Rattle.cells.specs.Segments.{Pasted}
 use Rattle.page.specs.Writes.{Redone, Edited, BlockFits, Fits, Applied}
 use Rattle.ground.proofs.TestLaws.{either}
@@ -46,14 +46,15 @@ redone-part {p} {q} {k} {a} {e} {at} {s} {flag} B hs place P' eb g eg =
           others);
     }
 
--- and so is a row that takes columns of another
-pub redone-move : {p q : List ℕ} {k a e at from : ℕ} {flag : Bool} {bits : ℕ} (j : ℕ) → BlockFits p k (k + 1) a e → 80 * (j + 1) ≤ length p
-    → at ≡ 80 * k + a → from ≡ 80 * j + a
-    → Pasted p q at (drop from p) (e - a) flag → bits ≡ bit flag * 2 ^ k → Redone p q (λ i. eqb i k) (λ i. overlaid (row p i) a e (row p j)) bits
-redone-move {p} {q} {k} {a} {e} {at} {from} {flag} j B h place source P eb =
-    redone-part B (simp length-drop (omega arith)) place P eb (λ i. overlaid (row p i) a e (row p j))
-    (paste-ext (row p k) a (drop from p) (drop a (row p j)) (e - a)
-    (ap (λ (i : ℕ). take (e - a) (drop i p)) source ∙ sym (part-of-row p j a (e - a) (omega arith))))
+-- and so is a row that takes columns of another, from column c on
+pub redone-move : {p q : List ℕ} {k a e at from : ℕ} {flag : Bool} {bits : ℕ} (j c : ℕ) → BlockFits p k (k + 1) a e → 80 * (j + 1) ≤ length p
+    → c + (e - a) ≤ 80 → at ≡ 80 * k + a → from ≡ 80 * j + c
+    → Pasted p q at (drop from p) (e - a) flag → bits ≡ bit flag * 2 ^ k
+    → Redone p q (λ i. eqb i k) (λ i. overlaidFrom (row p i) a e (row p j) c) bits
+redone-move {p} {q} {k} {a} {e} {at} {from} {flag} j c B h l place source P eb =
+    redone-part B (simp length-drop (omega arith)) place P eb (λ i. overlaidFrom (row p i) a e (row p j) c)
+    (paste-ext (row p k) a (drop from p) (drop c (row p j)) (e - a)
+    (ap (λ (i : ℕ). take (e - a) (drop i p)) source ∙ sym (part-of-row p j c (e - a) (omega arith))))
 
 -- ---- one change after another
 

@@ -6,11 +6,13 @@ use Prim.Native.Nat.{ℕ, _+_, _-_, _*_, _≤_, _<_, min}
 use lib.Dec.{eqb, leb, ltb}
 use lib.ListN.{length, getD, take, drop, set, replicate}
 use lib.Seq.{paste}
-use Rattle.cells.specs.Cells.{blank, selectivelyErased}
+use Rattle.cells.specs.declared.CellChange.{CellChange}
+use Rattle.cells.specs.Cells.{blank, changedBy}
 use Rattle.cells.specs.Rows.{joined, rowsOf, nth}
 use Rattle.cells.specs.Sets.{changed}
 use Rattle.page.specs.declared.Edit.{Edit}
-use Rattle.page.specs.declared.Edit.the-variants.{Keep, Put, InsertCells, DeleteCells, ScrollUp, ScrollDown, Fill, SelectiveErase}
+use Rattle.page.specs.declared.Edit.the-variants.{Keep, Put, InsertCells, DeleteCells, ScrollUp, ScrollDown}
+use Rattle.page.specs.declared.Edit.the-variants.{FillRange, ChangeRange, FillRectangle, ChangeRectangle, CopyRectangle}
 
 -- a range has its first place and not its end
 abbrev pub inRange : ℕ → ℕ → ℕ → Bool
@@ -29,10 +31,20 @@ inserted x a e n w = take a x ++ replicate n w ++ take (e - a - n) (drop a x) ++
 abbrev pub deleted : List ℕ → ℕ → ℕ → ℕ → List ℕ
 deleted x a e n = take a x ++ take (e - a - n) (drop (a + n) x) ++ replicate n blank ++ drop e x
 
--- ---- rows that move: columns a to e of row x become those of row y
+-- ---- rows that move
 
+-- columns a to e of row x become as many of row y, from column c on
+abbrev pub overlaidFrom : List ℕ → ℕ → ℕ → List ℕ → ℕ → List ℕ
+overlaidFrom x a e y c = paste x a (drop c y) (e - a)
+
+-- and those of row y
 abbrev pub overlaid : List ℕ → ℕ → ℕ → List ℕ → List ℕ
-overlaid x a e y = paste x a (drop a y) (e - a)
+overlaid x a e y = overlaidFrom x a e y a
+
+-- ---- columns a to e of row x that change by what they hold
+
+abbrev pub changedRow : CellChange → List ℕ → ℕ → ℕ → List ℕ
+changedRow m x a e = paste x a (map (changedBy m) (drop a x)) (e - a)
 
 -- ---- a range of cells in reading order, seen from row k: the column where it begins there, and how many cells it has there
 
@@ -52,8 +64,11 @@ after (InsertCells r c e n w) f k = cond (eqb k r) (inserted (f k) c e n w) (f k
 after (DeleteCells r c e n) f k = cond (eqb k r) (deleted (f k) c e n) (f k)
 after (ScrollUp t e a z n) f k = cond (inRange t e k) (overlaid (f k) a z (cond (ltb (k + n) e) (f (k + n)) blankRow)) (f k)
 after (ScrollDown t e a z n) f k = cond (inRange t e k) (overlaid (f k) a z (cond (leb (t + n) k) (f (k - n)) blankRow)) (f k)
-after (Fill a z w) f k = let n = rangeLength a z k in paste (f k) (rangeStart a k) (replicate n w) n
-after (SelectiveErase a z) f k = paste (f k) (rangeStart a k) (map selectivelyErased (drop (rangeStart a k) (f k))) (rangeLength a z k)
+after (FillRange a z w) f k = let n = rangeLength a z k in paste (f k) (rangeStart a k) (replicate n w) n
+after (ChangeRange a z m) f k = changedRow m (f k) (rangeStart a k) (rangeStart z k)
+after (FillRectangle t e a z w) f k = cond (inRange t e k) (overlaid (f k) a z (replicate 80 w)) (f k)
+after (ChangeRectangle t e a z m) f k = cond (inRange t e k) (changedRow m (f k) a z) (f k)
+after (CopyRectangle t e a z r c) f k = cond (inRange t e k) (overlaidFrom (f k) a z (f (k - t + r)) c) (f k)
 
 -- the page of n rows after an edit
 unfoldable pub applied : ℕ → Edit → List ℕ → List ℕ
@@ -71,8 +86,11 @@ target (InsertCells r c e n w) k j = eqb k r && inRange c e j
 target (DeleteCells r c e n) k j = eqb k r && inRange c e j
 target (ScrollUp t e a z n) k j = inRange t e k && inRange a z j
 target (ScrollDown t e a z n) k j = inRange t e k && inRange a z j
-target (Fill a z w) k j = inRange a z (80 * k + j)
-target (SelectiveErase a z) k j = inRange a z (80 * k + j)
+target (FillRange a z w) k j = inRange a z (80 * k + j)
+target (ChangeRange a z m) k j = inRange a z (80 * k + j)
+target (FillRectangle t e a z w) k j = inRange t e k && inRange a z j
+target (ChangeRectangle t e a z m) k j = inRange t e k && inRange a z j
+target (CopyRectangle t e a z r c) k j = inRange t e k && inRange a z j
 
 -- the word that it brings in; blank where that is a blank or none
 abbrev pub entering : Edit → ℕ
@@ -82,8 +100,11 @@ entering (InsertCells r c e n w) = w
 entering (DeleteCells r c e n) = blank
 entering (ScrollUp t e a z n) = blank
 entering (ScrollDown t e a z n) = blank
-entering (Fill a z w) = w
-entering (SelectiveErase a z) = blank
+entering (FillRange a z w) = w
+entering (ChangeRange a z m) = blank
+entering (FillRectangle t e a z w) = w
+entering (ChangeRectangle t e a z m) = blank
+entering (CopyRectangle t e a z r c) = blank
 
 -- no edit at all
 abbrev pub isKeep : Edit → Bool
@@ -93,8 +114,11 @@ isKeep (InsertCells r c e n w) = false
 isKeep (DeleteCells r c e n) = false
 isKeep (ScrollUp t e a z n) = false
 isKeep (ScrollDown t e a z n) = false
-isKeep (Fill a z w) = false
-isKeep (SelectiveErase a z) = false
+isKeep (FillRange a z w) = false
+isKeep (ChangeRange a z m) = false
+isKeep (FillRectangle t e a z w) = false
+isKeep (ChangeRectangle t e a z m) = false
+isKeep (CopyRectangle t e a z r c) = false
 
 -- ---- an edit that stays on a page of n rows
 
@@ -115,6 +139,12 @@ pub record RangeFits (n a z : ℕ) : Type 0 where
   pub start : a ≤ z
   pub end : z ≤ 80 * n
 
+pub record RectangleFits (n t e a z : ℕ) : Type 0 where
+  pub top : t ≤ e
+  pub end : e ≤ n
+  pub left : a ≤ z
+  pub right : z ≤ 80
+
 abbrev pub Within : ℕ → Edit → Type 0
 Within n Keep = Unit {0}
 Within n (Put r c w) = (r < n) × (c < 80)
@@ -122,8 +152,11 @@ Within n (InsertCells r c e k w) = CellsFit n r c e k
 Within n (DeleteCells r c e k) = CellsFit n r c e k
 Within n (ScrollUp t e a z k) = RowsFit n t e a z k
 Within n (ScrollDown t e a z k) = RowsFit n t e a z k
-Within n (Fill a z w) = RangeFits n a z
-Within n (SelectiveErase a z) = RangeFits n a z
+Within n (FillRange a z w) = RangeFits n a z
+Within n (ChangeRange a z m) = RangeFits n a z
+Within n (FillRectangle t e a z w) = RectangleFits n t e a z
+Within n (ChangeRectangle t e a z m) = RectangleFits n t e a z
+Within n (CopyRectangle t e a z r c) = RectangleFits n t e a z × RectangleFits n r (r + (e - t)) c (c + (z - a))
 
 -- ---- what is kept and what is reported when an edit takes a page p of n rows to q
 

@@ -1,20 +1,24 @@
 // Edits: one function for each, and `apply` for any. Nothing outside this crate writes a page.
 use crate::Edit;
-use crate::rows::erase_row;
+use crate::rows::change_row;
+use crate::rows::change_rows;
 use crate::rows::fill_row;
 use crate::rows::fill_rows;
 use crate::rows::lower_rows;
 use crate::rows::place;
 use crate::rows::raise_rows;
+use crate::rows::slide_rows;
 use cells::BLANK;
 use cells::COLUMNS;
+use cells::CellChange;
 use cells::marks::row_bit;
 use cells::segments::copy_words;
 use cells::segments::fill_words;
 ghost use mathlib.Core.Path.{_≡_};
 ghost use Prim.Native.Nat.{_+_, _-_, _/_, _≤_};
 ghost use lib.ListN.{length, replicate};
-ghost use Rattle.page.specs.declared.Edit.the-variants.{Put, InsertCells, DeleteCells, ScrollUp, ScrollDown, Fill, SelectiveErase};
+ghost use Rattle.page.specs.declared.Edit.the-variants.{Put, InsertCells, DeleteCells, ScrollUp, ScrollDown};
+ghost use Rattle.page.specs.declared.Edit.the-variants.{FillRange, ChangeRange, FillRectangle, ChangeRectangle, CopyRectangle};
 ghost use Rattle.cells.specs.Cells.{blank};
 ghost use Rattle.page.specs.Edits.{rangeStart};
 ghost use Rattle.page.specs.Writes.{Edited, BlockFits, Fits, Applied};
@@ -67,7 +71,7 @@ fn scroll_up(page: &mut [u16], top: u8, end: u8, left: u8, right: u8, count: u8)
     ensures { λ r. ⌜ Edited (ScrollUp top end left right count) (now (page .entry)) (now (page .exit)) r ⌝ }
 {
     let last = end - count;
-    let moved = raise_rows(page, top, last, left, right, count);
+    let moved = raise_rows(page, top, last, left, right, count, left);
     moved | fill_rows(page, last, end, left, right, BLANK)
 }
 
@@ -77,7 +81,7 @@ fn scroll_down(page: &mut [u16], top: u8, end: u8, left: u8, right: u8, count: u
     ensures { λ r. ⌜ Edited (ScrollDown top end left right count) (now (page .entry)) (now (page .exit)) r ⌝ }
 {
     let first = top + count;
-    let moved = lower_rows(page, first, end, left, right, count);
+    let moved = lower_rows(page, first, end, left, right, count, left);
     moved | fill_rows(page, top, first, left, right, BLANK)
 }
 
@@ -96,9 +100,9 @@ fn column_in(place: u16, row: u8) -> u8
 }
 
 // Each cell of a range becomes `word`.
-fn fill(page: &mut [u16], from: u16, to: u16, word: u16) -> u64
+fn fill_range(page: &mut [u16], from: u16, to: u16, word: u16) -> u64
     requires { ⌜ BlockFits (now page) (from / 80) ((to + 79) / 80) 0 80 × (from ≤ to) ⌝ }
-    ensures { λ r. ⌜ Edited (Fill from to word) (now (page .entry)) (now (page .exit)) r ⌝ }
+    ensures { λ r. ⌜ Edited (FillRange from to word) (now (page .entry)) (now (page .exit)) r ⌝ }
 {
     let mut bits = 0;
     let mut k = (from / WIDTH) as u8;
@@ -110,23 +114,69 @@ fn fill(page: &mut [u16], from: u16, to: u16, word: u16) -> u64
     bits
 }
 
-// Each cell of a range that is not protected becomes a space.
-fn selective_erase(page: &mut [u16], from: u16, to: u16) -> u64
+// Each cell of a range changes by what it holds.
+fn change_range(page: &mut [u16], from: u16, to: u16, change: CellChange) -> u64
     requires { ⌜ BlockFits (now page) (from / 80) ((to + 79) / 80) 0 80 × (from ≤ to) ⌝ }
-    ensures { λ r. ⌜ Edited (SelectiveErase from to) (now (page .entry)) (now (page .exit)) r ⌝ }
+    ensures { λ r. ⌜ Edited (ChangeRange from to change) (now (page .entry)) (now (page .exit)) r ⌝ }
 {
     let mut bits = 0;
     let mut k = (from / WIDTH) as u8;
     let end = ((to + LAST) / WIDTH) as u8;
     while k < end {
-        bits |= erase_row(page, k, column_in(from, k), column_in(to, k));
+        bits |= change_row(page, k, column_in(from, k), column_in(to, k), change);
         k += 1;
     }
     bits
 }
 
+// Each cell of a rectangle becomes `word`.
+fn fill_rectangle(page: &mut [u16], top: u8, end: u8, left: u8, right: u8, word: u16) -> u64
+    requires { ⌜ BlockFits (now page) top end left right ⌝ }
+    ensures { λ r. ⌜ Edited (FillRectangle top end left right word) (now (page .entry)) (now (page .exit)) r ⌝ }
+{
+    fill_rows(page, top, end, left, right, word)
+}
+
+// Each cell of a rectangle changes by what it holds.
+fn change_rectangle(
+    page: &mut [u16],
+    top: u8,
+    end: u8,
+    left: u8,
+    right: u8,
+    change: CellChange,
+) -> u64
+    requires { ⌜ BlockFits (now page) top end left right ⌝ }
+    ensures { λ r. ⌜ Edited (ChangeRectangle top end left right change) (now (page .entry)) (now (page .exit)) r ⌝ }
+{
+    change_rows(page, top, end, left, right, change)
+}
+
+// Each cell of a rectangle becomes what stood at its place in another. The rows are written in an order in
+// which none is read after it was written.
+fn copy_rectangle(
+    page: &mut [u16],
+    top: u8,
+    end: u8,
+    left: u8,
+    right: u8,
+    row: u8,
+    column: u8,
+) -> u64
+    requires { ⌜ BlockFits (now page) top end left right × BlockFits (now page) row (row + (end - top)) column (column + (right - left)) ⌝ }
+    ensures { λ r. ⌜ Edited (CopyRectangle top end left right row column) (now (page .entry)) (now (page .exit)) r ⌝ }
+{
+    if top == row {
+        return slide_rows(page, top, end, left, right, column);
+    }
+    if top < row {
+        return raise_rows(page, top, end, left, right, row - top, column);
+    }
+    lower_rows(page, top, end, left, right, top - row, column)
+}
+
 // Any edit. Each function goes by the edit's own numbers, so `rows` is there for the promise alone.
-fn change(edit: Edit, page: &mut [u16], rows: u8) -> u64
+pub fn change(edit: Edit, page: &mut [u16], rows: u8) -> u64
     requires { ⌜ Fits rows edit (now page) ⌝ }
     ensures { λ r. ⌜ Applied rows edit (now (page .entry)) (now (page .exit)) r ⌝ }
 {
@@ -160,13 +210,36 @@ fn change(edit: Edit, page: &mut [u16], rows: u8) -> u64
             right,
             count,
         } => scroll_down(page, top, end, left, right, count),
-        Edit::Fill { from, to, word } => fill(page, from, to, word),
-        Edit::SelectiveErase { from, to } => selective_erase(page, from, to),
+        Edit::FillRange { from, to, word } => fill_range(page, from, to, word),
+        Edit::ChangeRange { from, to, change } => change_range(page, from, to, change),
+        Edit::FillRectangle {
+            top,
+            end,
+            left,
+            right,
+            word,
+        } => fill_rectangle(page, top, end, left, right, word),
+        Edit::ChangeRectangle {
+            top,
+            end,
+            left,
+            right,
+            change,
+        } => change_rectangle(page, top, end, left, right, change),
+        Edit::CopyRectangle {
+            top,
+            end,
+            left,
+            right,
+            row,
+            column,
+        } => copy_rectangle(page, top, end, left, right, row, column),
     }
 }
 
-// Applies an edit to a page of `rows` rows, and hands back the bits of the rows that it changed. Most
-// often there is nothing to do.
+// Applies an edit to a page of `rows` rows, and hands back the bits of the rows that it changed. Most often there
+// is nothing to do; the compiler puts this test, and no more, where a byte is stepped, since `change` has another
+// caller (docs/DECISIONS.md, "Shape").
 pub fn apply(edit: Edit, page: &mut [u16], rows: u8) -> u64
     requires { ⌜ Fits rows edit (now page) ⌝ }
     ensures { λ r. ⌜ Applied rows edit (now (page .entry)) (now (page .exit)) r ⌝ }

@@ -2,6 +2,8 @@
 pub mod edits;
 pub mod rows;
 
+use cells::CellChange;
+
 // What one step does to a page. Rows and columns are counted from 0, and a range ends before its
 // `end`, `right` or `to`. `from` and `to` count cells in reading order. The scope moves whole rows,
 // columns 0 to 80, and cells up to the row's end; the ranges are there for margins to come.
@@ -43,15 +45,40 @@ pub enum Edit {
         right: u8,
         count: u8,
     },
-    // Each cell of a range becomes `word`.
-    Fill {
+    // Each cell of a range becomes `word`, or changes by what it holds.
+    FillRange {
         from: u16,
         to: u16,
         word: u16,
     },
-    // Each cell of a range that is not protected becomes a space of ASCII, and keeps its flags.
-    SelectiveErase {
+    ChangeRange {
         from: u16,
         to: u16,
+        change: CellChange,
+    },
+    // Rows `top` to `end` in the columns `left` to `right`: each cell becomes `word`, or changes by what it holds.
+    FillRectangle {
+        top: u8,
+        end: u8,
+        left: u8,
+        right: u8,
+        word: u16,
+    },
+    ChangeRectangle {
+        top: u8,
+        end: u8,
+        left: u8,
+        right: u8,
+        change: CellChange,
+    },
+    // Each cell of these becomes what stood at its place in the rectangle of the same size that begins at
+    // `row` and `column`.
+    CopyRectangle {
+        top: u8,
+        end: u8,
+        left: u8,
+        right: u8,
+        row: u8,
+        column: u8,
     },
 }

@@ -1,19 +1,19 @@
 // Rows: columns of one row, and of a block of rows. Each function that writes hands back the bits of
 // the rows that it changed.
 use cells::COLUMNS;
+use cells::CellChange;
 use cells::marks::row_bit;
+use cells::segments::change_words;
 use cells::segments::copy_columns;
-use cells::segments::erase_words;
-use cells::segments::fill_words;
+use cells::segments::copy_words;
+use cells::segments::fill_columns;
 ghost use mathlib.Core.Path.{_≡_};
-ghost use mathlib.Core.List.{map};
 ghost use Prim.Native.Nat.{_+_, _-_, _*_, _≤_};
 ghost use lib.Dec.{eqb};
-ghost use lib.ListN.{length, drop, replicate};
+ghost use lib.ListN.{length, replicate};
 ghost use lib.Seq.{paste};
-ghost use Rattle.cells.specs.Cells.{selectivelyErased};
 ghost use Rattle.cells.specs.Rows.{row};
-ghost use Rattle.page.specs.Edits.{overlaid, inRange};
+ghost use Rattle.page.specs.Edits.{overlaid, overlaidFrom, changedRow, inRange};
 ghost use Rattle.page.specs.Writes.{Redone, BlockFits};
 
 // Where a cell stands in the page.
@@ -23,29 +23,50 @@ pub fn place(row: u8, column: u8) -> usize
     COLUMNS * (row as usize) + column as usize
 }
 
-// Columns `left` to `right` of row `to` become those of row `from`.
-fn move_row(page: &mut [u16], to: u8, from: u8, left: u8, right: u8) -> u64
-    requires { ⌜ BlockFits (now page) to (to + 1) left right × (80 * (from + 1) ≤ length (now page)) ⌝ }
+// Columns `left` to `right` of row `to` become as many of row `from`, from `column` on: cells that stand there
+// or later in the page. Of a whole row the columns are written out, so that the compiler sees how far the two lie apart.
+fn move_row(page: &mut [u16], to: u8, from: u8, left: u8, right: u8, column: u8) -> u64
+    requires { ⌜ BlockFits (now page) to (to + 1) left right × (80 * (from + 1) ≤ length (now page)) × (column + (right - left) ≤ 80)
+        × (80 * to + left ≤ 80 * from + column) ⌝ }
     ensures { λ r. ⌜ Redone (now (page .entry)) (now (page .exit)) (λ j. eqb j to)
-        (λ j. overlaid (row (now (page .entry)) j) left right (row (now (page .entry)) from)) r ⌝ }
+        (λ j. overlaidFrom (row (now (page .entry)) j) left right (row (now (page .entry)) from) column) r ⌝ }
 {
     let len = (right - left) as usize;
-    let changed = copy_columns(page, place(to, left), place(from, left), len);
+    if len == COLUMNS {
+        let changed = copy_columns(page, place(to, 0), place(from, 0), COLUMNS);
+        return row_bit(to, changed);
+    }
+    let changed = copy_columns(page, place(to, left), place(from, column), len);
     row_bit(to, changed)
 }
 
-// Columns `left` to `right` of row `to` become those of a row above it, with `gap` rows inRange the two.
-// `COLUMNS` stands beside the gap, so that the compiler sees that the two never overlap.
-fn lower_row(page: &mut [u16], to: u8, gap: u8, left: u8, right: u8) -> u64
-    requires { ⌜ BlockFits (now page) to (to + 1) left right × (gap + 1 ≤ to) ⌝ }
+// The same of a row above, with `gap` rows between the two. Of a whole row `COLUMNS` stands beside the gap, so
+// that it sees that the two never overlap.
+fn lower_row(page: &mut [u16], to: u8, gap: u8, left: u8, right: u8, column: u8) -> u64
+    requires { ⌜ BlockFits (now page) to (to + 1) left right × (gap + 1 ≤ to) × (column + (right - left) ≤ 80) ⌝ }
     ensures { λ r. ⌜ Redone (now (page .entry)) (now (page .exit)) (λ j. eqb j to)
-        (λ j. overlaid (row (now (page .entry)) j) left right (row (now (page .entry)) (to - (gap + 1)))) r ⌝ }
+        (λ j. overlaidFrom (row (now (page .entry)) j) left right (row (now (page .entry)) (to - (gap + 1))) column) r ⌝ }
 {
     let len = (right - left) as usize;
-    let at = place(to, left);
-    let from = at - (COLUMNS * (gap as usize) + COLUMNS);
-    let moved = copy_columns(page, at, from, len);
+    if len == COLUMNS {
+        let at = place(to, 0);
+        let moved = copy_columns(page, at, at - (COLUMNS * (gap as usize) + COLUMNS), COLUMNS);
+        return row_bit(to, moved);
+    }
+    let from = place(to, column) - (COLUMNS * (gap as usize) + COLUMNS);
+    let moved = copy_columns(page, place(to, left), from, len);
     row_bit(to, moved)
+}
+
+// Columns `left` to `right` of row `at` become as many of the same row, from `column` on.
+fn slide_row(page: &mut [u16], at: u8, left: u8, right: u8, column: u8) -> u64
+    requires { ⌜ BlockFits (now page) at (at + 1) left right × (column + (right - left) ≤ 80) ⌝ }
+    ensures { λ r. ⌜ Redone (now (page .entry)) (now (page .exit)) (λ j. eqb j at)
+        (λ j. overlaidFrom (row (now (page .entry)) j) left right (row (now (page .entry)) at) column) r ⌝ }
+{
+    let len = (right - left) as usize;
+    let moved = copy_words(page, place(at, left), place(at, column), len);
+    row_bit(at, moved)
 }
 
 // Columns `left` to `right` of row `at` become `word`.
@@ -55,54 +76,87 @@ pub fn fill_row(page: &mut [u16], at: u8, left: u8, right: u8, word: u16) -> u64
         (λ j. paste (row (now (page .entry)) j) left (replicate (right - left) word) (right - left)) r ⌝ }
 {
     let len = (right - left) as usize;
-    let changed = fill_words(page, place(at, left), len, word);
+    let changed = fill_columns(page, place(at, left), len, word);
     row_bit(at, changed)
 }
 
-// Columns `left` to `right` of row `at` are selectively erased.
-pub fn erase_row(page: &mut [u16], at: u8, left: u8, right: u8) -> u64
+// Columns `left` to `right` of row `at` change by what they hold.
+pub fn change_row(page: &mut [u16], at: u8, left: u8, right: u8, change: CellChange) -> u64
     requires { ⌜ BlockFits (now page) at (at + 1) left right ⌝ }
     ensures { λ r. ⌜ Redone (now (page .entry)) (now (page .exit)) (λ j. eqb j at)
-        (λ j. paste (row (now (page .entry)) j) left (map selectivelyErased (drop left (row (now (page .entry)) j))) (right - left)) r ⌝ }
+        (λ j. changedRow change (row (now (page .entry)) j) left right) r ⌝ }
 {
     let len = (right - left) as usize;
-    let changed = erase_words(page, place(at, left), len);
+    let changed = change_words(page, place(at, left), len, change);
     row_bit(at, changed)
 }
 
-// Columns `left` to `right` of rows `top` to `end` become those of the rows `count` below.
-pub fn raise_rows(page: &mut [u16], top: u8, end: u8, left: u8, right: u8, count: u8) -> u64
-    requires { ⌜ BlockFits (now page) top (end + count) left right × (top ≤ end) ⌝ }
+// ---- columns `left` to `right` of rows `top` to `end`
+
+// They become as many of the rows `count` below, from `column` on.
+pub fn raise_rows(
+    page: &mut [u16],
+    top: u8,
+    end: u8,
+    left: u8,
+    right: u8,
+    count: u8,
+    column: u8,
+) -> u64
+    requires { ⌜ BlockFits (now page) top (end + count) left right × (top ≤ end) × (column + (right - left) ≤ 80) × (left ≤ column + 80 * count) ⌝ }
     ensures { λ r. ⌜ Redone (now (page .entry)) (now (page .exit)) (inRange top end)
-        (λ j. overlaid (row (now (page .entry)) j) left right (row (now (page .entry)) (j + count))) r ⌝ }
+        (λ j. overlaidFrom (row (now (page .entry)) j) left right (row (now (page .entry)) (j + count)) column) r ⌝ }
 {
     let mut bits = 0;
     let mut k = top;
     while k < end {
-        bits |= move_row(page, k, k + count, left, right);
+        bits |= move_row(page, k, k + count, left, right, column);
         k += 1;
     }
     bits
 }
 
-// Columns `left` to `right` of rows `top` to `end` become those of the rows `count` above.
-pub fn lower_rows(page: &mut [u16], top: u8, end: u8, left: u8, right: u8, count: u8) -> u64
-    requires { ⌜ BlockFits (now page) top end left right × (count ≤ top) ⌝ }
+// They become as many of the rows `count` above.
+pub fn lower_rows(
+    page: &mut [u16],
+    top: u8,
+    end: u8,
+    left: u8,
+    right: u8,
+    count: u8,
+    column: u8,
+) -> u64
+    requires { ⌜ BlockFits (now page) top end left right × (count ≤ top) × (column + (right - left) ≤ 80) × (count ≡ 0 → column ≡ left) ⌝ }
     ensures { λ r. ⌜ Redone (now (page .entry)) (now (page .exit)) (inRange top end)
-        (λ j. overlaid (row (now (page .entry)) j) left right (row (now (page .entry)) (j - count))) r ⌝ }
+        (λ j. overlaidFrom (row (now (page .entry)) j) left right (row (now (page .entry)) (j - count)) column) r ⌝ }
 {
     let mut bits = 0;
     if 0 < count {
         let mut k = end;
         while top < k {
             k -= 1;
-            bits |= lower_row(page, k, count - 1, left, right);
+            bits |= lower_row(page, k, count - 1, left, right, column);
         }
     }
     bits
 }
 
-// Columns `left` to `right` of rows `top` to `end` become `word`.
+// They become as many of their own rows.
+pub fn slide_rows(page: &mut [u16], top: u8, end: u8, left: u8, right: u8, column: u8) -> u64
+    requires { ⌜ BlockFits (now page) top end left right × (column + (right - left) ≤ 80) ⌝ }
+    ensures { λ r. ⌜ Redone (now (page .entry)) (now (page .exit)) (inRange top end)
+        (λ j. overlaidFrom (row (now (page .entry)) j) left right (row (now (page .entry)) j) column) r ⌝ }
+{
+    let mut bits = 0;
+    let mut k = top;
+    while k < end {
+        bits |= slide_row(page, k, left, right, column);
+        k += 1;
+    }
+    bits
+}
+
+// They become `word`.
 pub fn fill_rows(page: &mut [u16], top: u8, end: u8, left: u8, right: u8, word: u16) -> u64
     requires { ⌜ BlockFits (now page) top end left right ⌝ }
     ensures { λ r. ⌜ Redone (now (page .entry)) (now (page .exit)) (inRange top end)
@@ -112,6 +166,28 @@ pub fn fill_rows(page: &mut [u16], top: u8, end: u8, left: u8, right: u8, word: 
     let mut k = top;
     while k < end {
         bits |= fill_row(page, k, left, right, word);
+        k += 1;
+    }
+    bits
+}
+
+// They change by what they hold.
+pub fn change_rows(
+    page: &mut [u16],
+    top: u8,
+    end: u8,
+    left: u8,
+    right: u8,
+    change: CellChange,
+) -> u64
+    requires { ⌜ BlockFits (now page) top end left right ⌝ }
+    ensures { λ r. ⌜ Redone (now (page .entry)) (now (page .exit)) (inRange top end)
+        (λ j. changedRow change (row (now (page .entry)) j) left right) r ⌝ }
+{
+    let mut bits = 0;
+    let mut k = top;
+    while k < end {
+        bits |= change_row(page, k, left, right, change);
         k += 1;
     }
     bits

@@ -14,7 +14,8 @@ abbrev pub cursorBytes : Cursor → List ℕ
 cursorBytes u = u .row ∷ u .column ∷ bit (u .wrap) ∷ []
 
 abbrev pub modeBytes : Modes → List ℕ
-modeBytes m = bit (m .insert) ∷ bit (m .newline) ∷ bit (m .origin) ∷ bit (m .autowrap) ∷ bit (m .shown) ∷ bit (m .eightbit) ∷ []
+modeBytes m =
+    bit (m .insert) ∷ bit (m .newline) ∷ bit (m .origin) ∷ bit (m .autowrap) ∷ bit (m .shown) ∷ bit (m .eightbit) ∷ bit (m .rectangle) ∷ []
 
 abbrev pub renditionBytes : Rendition → List ℕ
 renditionBytes r = bit (r .bold) ∷ bit (r .underline) ∷ bit (r .blink) ∷ bit (r .reverse) ∷ []

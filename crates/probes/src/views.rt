@@ -39,6 +39,7 @@ fn put_modes(out: &mut [u8], at: usize, modes: Modes) -> usize
         modes.autowrap as u8,
         modes.shown as u8,
         modes.eightbit as u8,
+        modes.rectangle as u8,
     ];
     put_bytes(out, at, &flags)
 }

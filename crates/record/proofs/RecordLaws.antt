@@ -1,8 +1,6 @@
 -- A state's record holds that state again, and so does the record that a call leaves.
--- The unused byte is 0 in a state's record, and no part of the state of any.
 use mathlib.Core.Path.{_≡_, refl, sym, ap, _∙_}
 use mathlib.Core.Bool.{Bool, true, false, cond}
-use Prim.Native.Nat.{ℕ}
 use lib.Dec.{ltb}
 use Rattle.cells.specs.Cells.{setNumber, setOf}
 use Rattle.cells.specs.declared.CharSet.{CharSet}
@@ -97,36 +95,6 @@ rows-back s = ap (λ (t : Bool). cond t (s .core .rows) 0) (state-named s)
 pub state-back : (s : State) → stateOf (recordOf s) ≡ s
 unfolding stateOf recordOf
 state-back s = λ i. record { core = (ap (coreOf (recordOf s)) (rows-back s) ∙ core-back s) i; tracked = s .tracked }
-
--- ---- the unused byte
-
--- a record with another
-abbrev withUnused : Terminal → ℕ → Terminal
-withUnused t byte = record {
-  changed = t .changed;
-  values = t .values;
-  tabs = t .tabs;
-  rows = t .rows;
-  top = t .top;
-  bottom = t .bottom;
-  protected = t .protected;
-  shift = t .shift;
-  cursor = t .cursor;
-  modes = t .modes;
-  rendition = t .rendition;
-  sets = t .sets;
-  saved = t .saved;
-  parser = t .parser;
-  unused = byte;
-}
-
-pub unused-ignored : (t : Terminal) (byte : ℕ) → stateOf (withUnused t byte) ≡ stateOf t
-unfolding stateOf coreOf named
-unused-ignored t byte = refl
-
-pub unused-zero : (s : State) → recordOf s .unused ≡ 0
-unfolding recordOf
-unused-zero s = refl
 
 -- ---- what a call leaves, refused or not
 

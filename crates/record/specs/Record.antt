@@ -36,6 +36,7 @@ modesRecord m = record {
   autowrap = flagNumber (m .autowrap);
   shown = flagNumber (m .shown);
   eightbit = flagNumber (m .eightbit);
+  rectangle = flagNumber (m .rectangle);
 }
 
 abbrev pub renditionRecord : Rendition → RenditionRecord
@@ -91,7 +92,6 @@ recordOf s = record {
   sets = setsRecord (s .core .sets);
   saved = savedRecord (s .core .saved);
   parser = parserRecord (s .core .parser);
-  unused = 0;
 }
 
 -- ---- the state of a record
@@ -107,6 +107,7 @@ modesOf m = record {
   autowrap = isOn (m .autowrap);
   shown = isOn (m .shown);
   eightbit = isOn (m .eightbit);
+  rectangle = isOn (m .rectangle);
 }
 
 abbrev pub renditionOf : RenditionRecord → Rendition
@@ -167,7 +168,8 @@ abbrev pub renditionNamed : RenditionRecord → Bool
 renditionNamed r = ltb (r .bold) 2 && ltb (r .underline) 2 && ltb (r .blink) 2 && ltb (r .reverse) 2
 
 abbrev pub modesNamed : ModesRecord → Bool
-modesNamed m = ltb (m .insert) 2 && ltb (m .newline) 2 && ltb (m .origin) 2 && ltb (m .autowrap) 2 && ltb (m .shown) 2 && ltb (m .eightbit) 2
+modesNamed m =
+    ltb (m .insert) 2 && ltb (m .newline) 2 && ltb (m .origin) 2 && ltb (m .autowrap) 2 && ltb (m .shown) 2 && ltb (m .eightbit) 2 && ltb (m .rectangle) 2
 
 abbrev pub setsNamed : SetsRecord → Bool
 setsNamed s = ltb (s .g0) 4 && ltb (s .g1) 4 && ltb (s .g2) 4 && ltb (s .g3) 4 && ltb (s .gl) 4 && ltb (s .gr) 4

@@ -41,6 +41,7 @@ fn modes_record(modes: Modes) -> ModesRecord
         autowrap: flag_number(modes.autowrap),
         shown: flag_number(modes.shown),
         eightbit: flag_number(modes.eightbit),
+        rectangle: flag_number(modes.rectangle),
     }
 }
 
@@ -128,6 +129,5 @@ pub fn record_of(state: State) -> Terminal
         sets: sets_record(core.sets),
         saved: saved_record(core.saved),
         parser: parser_record(parser),
-        unused: 0,
     }
 }

@@ -18,6 +18,7 @@ pub struct ModesRecord {
     pub autowrap: u8,
     pub shown: u8,
     pub eightbit: u8,
+    pub rectangle: u8,
 }
 
 #[repr(C)]
@@ -73,6 +74,4 @@ pub struct Terminal {
     pub sets: SetsRecord,
     pub saved: SavedRecord,
     pub parser: ParserRecord,
-    // The last of the 96 bytes: written 0, and not looked at.
-    pub unused: u8,
 }

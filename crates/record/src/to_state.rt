@@ -46,6 +46,7 @@ fn modes_of(modes: ModesRecord) -> Modes
         autowrap: is_on(modes.autowrap),
         shown: is_on(modes.shown),
         eightbit: is_on(modes.eightbit),
+        rectangle: is_on(modes.rectangle),
     }
 }
 
@@ -148,6 +149,7 @@ fn modes_named(modes: ModesRecord) -> bool
         & (modes.autowrap < 2)
         & (modes.shown < 2)
         & (modes.eightbit < 2)
+        & (modes.rectangle < 2)
 }
 
 fn sets_named(sets: SetsRecord) -> bool

@@ -40,7 +40,8 @@ use Rattle.core.specs.Whole.{Whole}
 use Rattle.core.specs.Effects.{withCursor, withShift, oneEdit}
 use Rattle.vt.specs.Controls.{nextLined, indexed, controlled}
 use Rattle.core.specs.Geometry.{leftStop, rightStop, stopsOf}
-use Rattle.vt.specs.Printing.{usedSet, skipped, indexEdit, glyph, put, printed}
+use Rattle.core.specs.Glyphs.{usedSet, skipped, glyph}
+use Rattle.vt.specs.Printing.{indexEdit, put, printed}
 use Rattle.dispatch.proofs.HeardLaws.{reply-heard}
 use Rattle.dispatch.specs.WrapDue.{clearsWrap, withWrapPolicy}
 use Rattle.dispatch.specs.Decide.{executed, decided, sends}

@@ -10,7 +10,8 @@ use lib.ListN.{length, take, length-append}
 use lib.Pow.{pow-pos}
 use borrow.Author.Tests.{lt-ltb, le-ltb, ltb-false}
 use Rattle.page.specs.declared.Edit.{Edit}
-use Rattle.page.specs.declared.Edit.the-variants.{Keep, Put, InsertCells, DeleteCells, ScrollUp, ScrollDown, Fill, SelectiveErase}
+use Rattle.page.specs.declared.Edit.the-variants.{Keep, Put, InsertCells, DeleteCells, ScrollUp, ScrollDown}
+use Rattle.page.specs.declared.Edit.the-variants.{FillRange, ChangeRange, FillRectangle, ChangeRectangle, CopyRectangle}
 use Rattle.cells.specs.Rows.{row}
 use Rattle.cells.specs.Sets.{hasBit, added, changed, changedIn}
 use Rattle.page.specs.Edits.{applied, Within}
@@ -103,8 +104,11 @@ by-edit r m P k f (InsertCells a b c d w) = f (InsertCells a b c d w)
 by-edit r m P k f (DeleteCells a b c d) = f (DeleteCells a b c d)
 by-edit r m P k f (ScrollUp a b c d n) = f (ScrollUp a b c d n)
 by-edit r m P k f (ScrollDown a b c d n) = f (ScrollDown a b c d n)
-by-edit r m P k f (Fill a b c) = f (Fill a b c)
-by-edit r m P k f (SelectiveErase a b) = f (SelectiveErase a b)
+by-edit r m P k f (FillRange a b c) = f (FillRange a b c)
+by-edit r m P k f (ChangeRange a b x) = f (ChangeRange a b x)
+by-edit r m P k f (FillRectangle a b c d w) = f (FillRectangle a b c d w)
+by-edit r m P k f (ChangeRectangle a b c d x) = f (ChangeRectangle a b c d x)
+by-edit r m P k f (CopyRectangle a b c d i j) = f (CopyRectangle a b c d i j)
 
 pub edited-page : (r : ℕ) (e : Edit) (m : Marked) → length (m .page) ≡ 80 * r → edited r e m .page ≡ applied r e (m .page)
 edited-page r e m h = by-edit r m (λ e x. x .page ≡ applied r e (m .page)) (sym (keep-applied r (m .page) h)) (λ e. refl) e

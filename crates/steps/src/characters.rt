@@ -4,13 +4,13 @@ use core::Core;
 use core::geometry::left_stop;
 use core::geometry::right_stop;
 use core::geometry::stops_of;
+use core::glyphs::glyph;
 use device::charsets::SingleShift;
 use device::cursor::Cursor;
 use ground::tests::between;
-use page::edits::apply;
+use page::edits::change;
 use page::edits::put;
 use parser::phases::is_ground;
-use vt::printing::glyph;
 use vt::printing::index_edit;
 ghost use mathlib.Core.Path.{_≡_};
 ghost use mathlib.Core.Bool.{true, false, cond};
@@ -97,7 +97,7 @@ fn line_feed(core: Core, cursor: Cursor, byte: u8, page: &mut [u16]) -> Moved
     let stops = stops_of(core);
     let start = line_start(cursor, core.modes.newline, stops.left);
     let edit = index_edit(margins, stops, start);
-    let changed = apply(edit, page, core.rows);
+    let changed = change(edit, page, core.rows);
     Moved {
         cursor: start.index(margins.bottom, core.rows),
         changed,

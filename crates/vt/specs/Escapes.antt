@@ -4,7 +4,7 @@ use Prim.Native.Nat.{ℕ, _*_}
 use lib.Dec.{eqb}
 use Rattle.cells.specs.declared.CharSet.{CharSet}
 use Rattle.cells.specs.declared.CharSet.the-variants.{Ascii, SpecialGraphics, Supplemental, Latin1}
-use Rattle.page.specs.declared.Edit.the-variants.{Fill}
+use Rattle.page.specs.declared.Edit.the-variants.{FillRange}
 use Rattle.cells.specs.Cells.{plainCell, packed, blank}
 use Rattle.device.specs.declared.charsets.Register.{Register}
 use Rattle.device.specs.declared.charsets.Register.the-variants.{G0, G1, G2, G3}
@@ -43,11 +43,11 @@ restoreCursor c = unedited (restoredFrom c (c .saved))
 
 -- every cell plain E, margins full, cursor 1,1
 abbrev pub alignScreen : Core → Decision
-alignScreen c = oneEdit (withCursor (withMargins c (record { top = 1; bottom = c .rows })) (place 1 1)) (Fill 0 (80 * c .rows) (packed (plainCell 0x45)))
+alignScreen c = oneEdit (withCursor (withMargins c (record { top = 1; bottom = c .rows })) (place 1 1)) (FillRange 0 (80 * c .rows) (packed (plainCell 0x45)))
 
 -- fresh, with the same R
 abbrev pub reset : Core → Decision
-reset c = oneEdit (freshCore (c .rows)) (Fill 0 (80 * c .rows) blank)
+reset c = oneEdit (freshCore (c .rows)) (FillRange 0 (80 * c .rows) blank)
 
 -- ---- reply width and sets
 

@@ -1,12 +1,10 @@
 -- Printing (SCOPE 4).
-use mathlib.Core.Bool.{Bool, cond, not, _&&_, _||_}
-use Prim.Native.Nat.{ℕ, _-_, _%_}
-use lib.Dec.{eqb, ltb}
-use Rattle.cells.specs.declared.CharSet.{CharSet}
+use mathlib.Core.Bool.{Bool, cond}
+use Prim.Native.Nat.{ℕ, _-_}
+use lib.Dec.{eqb}
 use Rattle.cells.specs.declared.CharSet.the-variants.{Ascii}
 use Rattle.page.specs.declared.Edit.{Edit}
 use Rattle.page.specs.declared.Edit.the-variants.{Keep, Put, InsertCells, ScrollUp}
-use Rattle.cells.specs.Cells.{packed}
 use Rattle.device.specs.declared.charsets.SingleShift.the-variants.{NoShift}
 use Rattle.device.specs.declared.cursor.Cursor.{Cursor}
 use Rattle.core.specs.declared.Margins.{Margins}
@@ -15,32 +13,10 @@ use Rattle.core.specs.declared.Core.{Core}
 use Rattle.core.specs.declared.Decision.{Decision}
 use Rattle.core.specs.declared.geometry.Stops.{Stops}
 use Rattle.vt.specs.declared.printing.Printed.{Printed}
-use Rattle.device.specs.Charsets.{has96, leftSet, rightSet}
 use Rattle.device.specs.Cursor.{toColumn, index, advance}
 use Rattle.core.specs.Geometry.{stopsOf}
+use Rattle.core.specs.Glyphs.{usedSet, skipped, cellWord, glyph}
 use Rattle.core.specs.Effects.{withCursor, withShift, unedited}
-
--- ---- the cell
-
--- the set that a byte uses
-abbrev pub usedSet : Core → ℕ → CharSet
-usedSet c b = cond (ltb b 0x80) (leftSet (c .sets) (c .shift)) (rightSet (c .sets))
-
--- in a 94-sign set 7F, A0 and FF are ignored
-abbrev pub skipped : CharSet → ℕ → Bool
-skipped s b = not (has96 s) && ((eqb b 0x7F || eqb b 0xA0) || eqb b 0xFF)
-
--- in a 94-sign set 20 is code 20 of set ASCII
-abbrev pub shownSet : CharSet → ℕ → CharSet
-shownSet s b = cond (not (has96 s) && eqb b 0x20) Ascii s
-
--- the cell takes code, set, rendition and protection
-abbrev pub cellWord : Core → ℕ → CharSet → ℕ
-cellWord c code s = packed (record { code = code; set = s; rendition = c .rendition; protected = c .protected })
-
--- the word of the cell that a byte puts
-abbrev pub glyph : Core → ℕ → ℕ
-glyph c b = cellWord c (b % 128) (shownSet (usedSet c b) b)
 
 -- ---- the edits
 

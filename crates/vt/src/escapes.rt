@@ -81,7 +81,7 @@ fn align_screen(mut core: Core) -> Decision
     core.cursor = fresh_cursor();
     one_edit(
         core,
-        Edit::Fill {
+        Edit::FillRange {
             from: 0,
             to: 80 * (rows as u16),
             word: 0x45,
@@ -96,7 +96,7 @@ fn reset(core: Core) -> Decision
     let rows = core.rows;
     one_edit(
         fresh_core(rows),
-        Edit::Fill {
+        Edit::FillRange {
             from: 0,
             to: 80 * (rows as u16),
             word: BLANK,

@@ -5,6 +5,7 @@ pub mod SoundPrinting
 pub mod SoundControls
 pub mod SoundEscapes
 pub mod SavedLaws
+pub mod SoundRectangles
 pub mod SoundSequences
 pub mod SoundParser
 pub mod Sound

@@ -12,8 +12,8 @@ use Rattle.device.specs.declared.cursor.Cursor.{Cursor}
 use Rattle.core.specs.declared.Core.{Core}
 use Rattle.vt.specs.declared.printing.Printed.{Printed}
 use Rattle.device.specs.Cursor.{advance}
-use Rattle.vt.specs.Printing.{usedSet, skipped, shownSet, cellWord, indexEdit, putEdit, lineStart, nextLine, printHere, printBelow, printedIn, put, printed}
-use Rattle.vt.specs.Printing.{substituted}
+use Rattle.core.specs.Glyphs.{usedSet, skipped, shownSet, cellWord}
+use Rattle.vt.specs.Printing.{indexEdit, putEdit, lineStart, nextLine, printHere, printBelow, printedIn, put, printed, substituted}
 use Rattle.core.specs.Geometry.{leftStop, rightStop, stopsOf}
 use Rattle.core.specs.Effects.{withShift}
 use Rattle.ground.proofs.TestLaws.{either}

@@ -16,17 +16,20 @@ use Rattle.core.specs.Fresh.{freshCore}
 use Rattle.core.specs.Bounds.{Scrolls}
 use Rattle.core.specs.Whole.{Parts, WrapOf}
 use Rattle.core.specs.Geometry.{leftStop, rightStop, home}
-use Rattle.csi.specs.Sequences.{rowAt, rowStart, rowsBelow, cellsRight, folded, ansiMode, originMode, decMode, modeSet, modesSet, selectProtection}
+use Rattle.ground.specs.Folds.{folded}
+use Rattle.rectangles.specs.Functions.{rectangleEdit, selectExtent}
+use Rattle.csi.specs.Sequences.{rowAt, rowStart, rowsBelow, cellsRight, ansiMode, originMode, decMode, modeSet, modesSet, selectProtection}
 use Rattle.csi.specs.Sequences.{requestedMargins, marginsTaken, setMargins, softReset, plainSequence, privateSequence, sequenced}
-use Rattle.parser.specs.Families.{isPlain, isPrivate, isProtection, isSoftReset}
-use Rattle.dispatch.specs.Heard.{insideMargins, isSecondary, plainIgnored, privateIgnored, ignoredSequence}
-use Rattle.dispatch.specs.WrapDue.{keepingFinals, privateKeeps, sequenceKeeps}
-use Rattle.core.specs.Effects.{withCursor, withMargins, unedited}
+use Rattle.parser.specs.Families.{isPlain, isPrivate, isProtection, isSoftReset, isRectangle, isExtent}
+use Rattle.dispatch.specs.Heard.{insideMargins, plainIgnored, privateIgnored, ignoredSequence}
+use Rattle.dispatch.specs.WrapDue.{keepingFinals, privateKeeps, otherKeeps, sequenceKeeps}
+use Rattle.core.specs.Effects.{withCursor, withMargins, oneEdit, unedited}
 use Rattle.ground.proofs.TestLaws.{either, at-number, or-left, or-right, between-low, between-high}
 use Rattle.dispatch.proofs.WrapLaws.{reset-clears}
 use Rattle.wholeness.proofs.Decisions.{Good, good-kept, good-unedited, good-either}
 use Rattle.wholeness.proofs.SoundMoves.{Placed, placed-parts, Fine, fine-returned, fine-up, fine-down, fine-left, fine-right}
 use Rattle.wholeness.proofs.SoundControls.{good-moved}
+use Rattle.wholeness.proofs.SoundRectangles.{good-rectangle, good-extent}
 use Rattle.wholeness.proofs.Wholeness.{no-wrap, full, origin-off, saved-home}
 
 module _ (c : Core) (p : Parts c) where
@@ -197,20 +200,23 @@ module _ (c : Core) (p : Parts c) (h : WrapOf c) where
       (λ e. resets-wrap c (paramList q) (or-right six seven (sym (Bool·not-not (six || seven)) ∙ e)) h))
       (λ n4. rw (ne-eqb last 0x4A n1, ne-eqb last 0x4B n2, ne-eqb last 0x68 n3, ne-eqb last 0x6C n4) (good-unedited c _ p (λ _. h))))))
 
-  families : (q : Params) (last : ℕ) (i j s k l : Bool)
-      → cond i (plainIgnored c q last) (j && privateIgnored q last) ≡ false → (l ≡ true → not (s || k) ≡ true)
-      → Good (c .rows) (not (cond i (member last keepingFinals) (cond j (privateKeeps q last) (s || k))))
-      (cond i (plainSequence c q last) (cond j (privateSequence c q last) (cond k (selectProtection c q) (cond l (unedited (softReset c)) (unedited c)))))
-  families q last true j s k l n f = good-plain q last n _
-  families q last false true s k l n f = good-private q last
-  families q last false false s true l n f = good-protection _ q
-  families q last false false s false true n f = rw (f refl) (good-soft-reset c p)
-  families q last false false s false false n f = good-unedited c _ p (λ _. h)
+  families : (q : Params) (last : ℕ) (i j keeps k l x e : Bool)
+      → cond i (plainIgnored c q last) (j && privateIgnored q last) ≡ false → (l ≡ true → not keeps ≡ true)
+      → Good (c .rows) (not (cond i (member last keepingFinals) (cond j (privateKeeps q last) keeps)))
+      (cond i (plainSequence c q last) (cond j (privateSequence c q last) (cond k (selectProtection c q) (cond l (unedited (softReset c))
+      (cond x (oneEdit c (rectangleEdit c q last)) (cond e (selectExtent c q) (unedited c)))))))
+  families q last true j keeps k l x e n f = good-plain q last n _
+  families q last false true keeps k l x e n f = good-private q last
+  families q last false false keeps true l x e n f = good-protection _ q
+  families q last false false keeps false true x e n f = rw (f refl) (good-soft-reset c p)
+  families q last false false keeps false false true e n f = good-rectangle c p h _ q last
+  families q last false false keeps false false false true n f = good-extent c p h _ q
+  families q last false false keeps false false false false n f = good-unedited c _ p (λ _. h)
 
   pub good-sequenced : (q : Params) (mark first second last : ℕ) → ignoredSequence c q mark first second last ≡ false
       → Good (c .rows) (not (sequenceKeeps q mark first second last)) (sequenced c q mark first second last)
   unfolding sequenced
   good-sequenced q mark first second last n =
-      families q last (isPlain mark first second) (isPrivate mark first second)
-      (isSecondary mark first second last) (isProtection mark first second last) (isSoftReset mark first second last) n
+      families q last (isPlain mark first second) (isPrivate mark first second) (otherKeeps mark first second last)
+      (isProtection mark first second last) (isSoftReset mark first second last) (isRectangle mark first second) (isExtent mark first second last) n
       (reset-clears mark first second last)

@@ -1,11 +1,11 @@
 -- The words that a byte's edits bring in are printable: a character's code is a sign of its set, SUB's is 1A, and what else enters is
 -- blank or E.
 use mathlib.Core.Path.{_≡_, refl, ap}
-use mathlib.Core.Bool.{Bool, true, false, cond, _||_}
+use mathlib.Core.Bool.{Bool, true, false, cond, not, _&&_, _||_}
 use Prim.Native.Nat.{ℕ, _%_, _≤_, _<_}
 use native.Mathlib.Omega.{arith}
 use lib.Dec.{eqb, leb, ltb}
-use borrow.Author.Tests.{le-leb, leb-true, leb-false, eqb-true, eqb-false}
+use borrow.Author.Tests.{le-leb, leb-true, leb-false, eqb-true, eqb-false, not-true}
 use Rattle.cells.specs.declared.CharSet.{CharSet}
 use Rattle.cells.specs.declared.CharSet.the-variants.{Ascii, SpecialGraphics, Supplemental, Latin1}
 use Rattle.page.specs.declared.Edit.{Edit}
@@ -14,6 +14,7 @@ use Rattle.cells.specs.Cells.{blank, plainCell, hasSign, Printable}
 use Rattle.page.specs.Edits.{entering}
 use Rattle.cells.proofs.CellLaws.{packed-printable, blank-printable}
 use Rattle.parser.specs.declared.params.Params.{Params}
+use Rattle.parser.specs.Params.{param}
 use Rattle.parser.specs.declared.phases.Phase.{Phase}
 use Rattle.parser.specs.declared.phases.Transition.{Transition}
 use Rattle.parser.specs.declared.phases.Op.{Op}
@@ -23,7 +24,7 @@ use Rattle.parser.specs.declared.parser.Action.{Action}
 use Rattle.parser.specs.declared.parser.Action.the-variants.{Nothing, Character, Substitute, Control, C1Control, EscapeSequence, ControlSequence}
 use Rattle.parser.specs.Parser.{to, lowered, transition, actionOf, decode}
 use Rattle.ground.specs.Tests.{between}
-use Rattle.ground.proofs.TestLaws.{either, or-left, or-right}
+use Rattle.ground.proofs.TestLaws.{either, and-left, and-right, or-left, or-right}
 use Rattle.device.specs.declared.charsets.SingleShift.the-variants.{NoShift}
 use Rattle.device.specs.declared.cursor.Cursor.{Cursor}
 use Rattle.core.specs.declared.Core.{Core}
@@ -31,7 +32,13 @@ use Rattle.core.specs.declared.Decision.{Decision}
 use Rattle.vt.specs.declared.printing.Printed.{Printed}
 use Rattle.core.specs.Geometry.{stopsOf}
 use Rattle.core.specs.Effects.{withShift, withParser, oneEdit}
-use Rattle.vt.specs.Printing.{usedSet, skipped, shownSet, cellWord, glyph, putEdit, lineStart, nextLine, printedIn, put, printed, substituted}
+use Rattle.core.specs.Glyphs.{usedSet, skipped, shownSet, cellWord, glyph}
+use Rattle.rectangles.specs.declared.areas.Area.{Area}
+use Rattle.rectangles.specs.Areas.{areaAt, isTaken}
+use Rattle.rectangles.specs.Attributes.{restylingOf}
+use Rattle.rectangles.specs.Functions.{isGraphic, isPrinted, fillRectangle, changeAttributes, copyRectangle, rectangleEdit}
+use Rattle.rectangles.proofs.CodeLaws.{graphic-byte}
+use Rattle.vt.specs.Printing.{putEdit, lineStart, nextLine, printedIn, put, printed, substituted}
 use Rattle.vt.specs.Controls.{indexFrom, controlled, c1Controlled}
 use Rattle.vt.specs.Escapes.{alignScreen, escaped}
 use Rattle.csi.specs.Sequences.{sequenced}
@@ -167,9 +174,38 @@ module _ (c : Core) where
   unfolding escaped
   escape-brings first second last = search (brings, align-brings) depth 20 fits 3000
 
+  -- a code that fills is one that printing would put
+  fill-enters : (q : Params) (a : Area) → Enters (fillRectangle c q a)
+  fill-enters q a =
+      let n = param q 0 in
+      let d = withShift c NoShift in
+      either Enters (isPrinted c n)
+      (λ e.
+      let b = graphic-byte n (and-left (isGraphic n) (not (skipped (usedSet d n) n)) e) in
+      packed-printable _ (omega arith)
+      (sign-of n (b .1) (b .0) (usedSet d n) (not-true (skipped (usedSet d n) n) (and-right (isGraphic n) (not (skipped (usedSet d n) n)) e))))
+      (λ _. blank-printable)
+
+  rectangle-enters : (q : Params) (last : ℕ) → Enters (rectangleEdit c q last)
+  rectangle-enters q last =
+      let a = areaAt c q (cond (eqb last 0x78) 1 0) in
+      let m = c .modes .rectangle in
+      let styles : (r : Bool) → Enters (changeAttributes m q a r) = λ r.
+      either Enters (restylingOf r q .listed) (λ _. either Enters m (λ _. blank-printable) (λ _. blank-printable)) (λ _. blank-printable) in
+      let copies : Enters (copyRectangle c q a) =
+      either Enters (leb (param q 4) 1 && leb (param q 7) 1) (λ _. blank-printable) (λ _. blank-printable) in
+      either Enters (isTaken a)
+      (λ _. either Enters (eqb last 0x72) (λ _. styles false) (λ _. either Enters (eqb last 0x74) (λ _. styles true)
+      (λ _. either Enters (eqb last 0x76) (λ _. copies) (λ _. either Enters (eqb last 0x78) (λ _. fill-enters q a)
+      (λ _. either Enters (eqb last 0x7A) (λ _. blank-printable) (λ _. either Enters (eqb last 0x7B) (λ _. blank-printable) (λ _. blank-printable)))))))
+      (λ _. blank-printable)
+
+  rectangle-brings : (q : Params) (last : ℕ) → Brings (oneEdit c (rectangleEdit c q last))
+  rectangle-brings q last = record { first = rectangle-enters q last; second = blank-printable }
+
   sequence-brings : (q : Params) (mark first second last : ℕ) → Brings (sequenced c q mark first second last)
   unfolding sequenced
-  sequence-brings q mark first second last = search brings depth 30 fits 3000
+  sequence-brings q mark first second last = search (rectangle-brings, brings) depth 30 fits 3000
 
 -- ---- one byte
 

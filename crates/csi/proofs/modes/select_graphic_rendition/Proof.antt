@@ -4,7 +4,8 @@ use borrow.Author.Needs.{needs}
 use Prim.Native.Nat.{_-_}
 use lib.ListN.{length, drop}
 use Rattle.parser.specs.Params.{paramList}
-use Rattle.csi.specs.Sequences.{folded, rendered}
+use Rattle.ground.specs.Folds.{folded}
+use Rattle.csi.specs.Sequences.{rendered}
 use Rattle.core.specs.Effects.{unedited}
 use Rattle.parser.proofs.ParamLaws.{list-more, list-end}
 use Rattle.csi.proofs.modes.select_graphic_rendition.Statement.{statement}

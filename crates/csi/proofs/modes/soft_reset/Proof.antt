@@ -7,4 +7,6 @@ use Rattle.csi.proofs.modes.soft_reset.Tie as tie
 
 pub soft-reset-spec : {M : Type 1} → statement M
 unfolding softReset freshCore
-soft-reset-spec = tie.close (tie.spec (λ c κs. search needs) (λ c κs. search needs) (λ c κs. search needs) (λ c. cc))
+soft-reset-spec =
+    tie.close (tie.spec (λ c κs. search needs) (λ c κs. search needs) (λ c κs. search needs)
+    (λ c. rw (c .before .before .plain-rendition .ensures, c .before .fresh .ensures, c .fresh-saved .ensures)))

@@ -1,4 +1,5 @@
 -- The rows that move and those that blanks enter are two blocks, and together they are the rows from `top` to `end`.
+use mathlib.Core.Path.{refl}
 use mathlib.Core.Logic.{inl, inr, ⊎-elim}
 use Prim.Native.Nat.{ℕ, _+_, _-_, _≤_, _<_}
 use native.Mathlib.Omega.{arith}
@@ -23,4 +24,5 @@ returns c =
     (λ j o o'. ⊎-elim (λ (b : j < top + n). ⊎-elim (λ (d : j < top). inl d) (λ (d : top + n ≤ j). absurd (omega arith)) o') (λ (b : end ≤ j). inr b) o)
 
 pub scroll-down-spec : {M : Type 1} → statement M
-scroll-down-spec = tie.close (tie.spec (λ c. search needs) (λ c κs. search needs) (λ c κs. search needs) (λ c. search needs) returns)
+scroll-down-spec =
+    tie.close (tie.spec (λ c. search needs) (λ c κs. (omega arith, omega arith, omega arith, λ _. refl)) (λ c κs. search needs) (λ c. search needs) returns)

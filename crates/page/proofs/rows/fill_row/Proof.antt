@@ -11,7 +11,7 @@ returns : tie.Need-returns
 returns c =
     let d = c .before .before .before in
     let s = d .before .before .before .before in
-    redone-part (s .pre) (simp length-replicate (omega arith)) (d .before .place .ensures) (d .fill-words .ensures) (c .row-bit .ensures) _ refl
+    redone-part (s .pre) (simp length-replicate (omega arith)) (d .before .place .ensures) (d .fill-columns .ensures) (c .row-bit .ensures) _ refl
 
 pub fill-row-spec : {M : Type 1} → statement M
 fill-row-spec =

@@ -1,4 +1,5 @@
--- One segment of the row is copied, and its flag is the row's bit. The row above ends before it.
+-- One segment of the row is copied, and its flag is the row's bit. The row above ends before it. Columns as many as a row has are all of it.
+use mathlib.Core.Path.{_≡_}
 use mathlib.Core.Logic.{inr}
 use Prim.Native.Nat.{_+_, _-_, _*_}
 use native.Mathlib.Omega.{arith}
@@ -10,13 +11,25 @@ use Rattle.page.proofs.rows.lower_row.Tie as tie
 returns : tie.Need-returns
 returns c =
     let d = c .before .before .before in
-    let s = d .before .before .before .before in
-    redone-move {from = d .before .before .place .result - (80 * s .args .gap + 80)} (s .args .to - (s .args .gap + 1)) (s .pre .0) (omega arith)
-    (d .before .before .place .ensures) (omega arith) (d .copy-columns .ensures) (c .row-bit .ensures)
+    let s = d .before .before .before .before .before in
+    let whole : s .args .right - s .args .left ≡ 80 = omega arith in
+    redone-move {at = d .before .before .place .result} {from = d .before .before .place .result - (80 * s .args .gap + 80)}
+    {flag = d .copy-columns .result} (s .args .to - (s .args .gap + 1)) (s .args .column) (s .pre .0)
+    (omega arith) (s .pre .2) (omega arith) (omega arith) (rw whole (d .copy-columns .ensures)) (c .row-bit .ensures)
+
+returns-2 : tie.Need-returns-2
+returns-2 c =
+    let d = c .before .before .before in
+    let s = d .before .before .before .before .before .before in
+    redone-move {from = d .before .before .before .place2 .result - (80 * s .args .gap + 80)} (s .args .to - (s .args .gap + 1)) (s .args .column) (s .pre .0)
+    (omega arith) (s .pre .2) (d .before .place3 .ensures) (omega arith) (d .copy-columns2 .ensures) (c .row-bit2 .ensures)
 
 pub lower-row-spec : {M : Type 1} → statement M
 lower-row-spec =
     tie.close (tie.spec
     (λ c. search needs) (λ c. search needs) (λ c κs. search needs) (λ c. search needs) (λ c. search needs) (λ c. search needs)
     (λ c κs. (omega arith, omega arith, inr (omega arith)))
-    (λ c κs. search needs) (λ c. search needs) returns)
+    (λ c κs. search needs) (λ c. search needs) returns
+    (λ c κs. search needs) (λ c. search needs) (λ c. search needs) (λ c. search needs) (λ c κs. search needs)
+    (λ c κs. (omega arith, omega arith, inr (omega arith)))
+    (λ c κs. search needs) (λ c. search needs) returns-2)

@@ -7,7 +7,7 @@ use mathlib.Core.Logic.{inl}
 use Prim.Native.Nat.{ℕ, _+_, _-_, _≤_}
 use native.Mathlib.Omega.{arith}
 use Rattle.cells.specs.Rows.{row}
-use Rattle.page.specs.Edits.{overlaid, inRange}
+use Rattle.page.specs.Edits.{overlaidFrom, inRange}
 use Rattle.page.specs.Writes.{Redone}
 use Rattle.page.proofs.Blocks.{block-none, block-same, block-down, block-all, block-old}
 use Rattle.cells.proofs.Differing.{paste-self}
@@ -15,11 +15,11 @@ use Rattle.page.proofs.rows.lower_rows.Statement.{statement}
 use Rattle.page.proofs.rows.lower_rows.Tie as tie
 
 abbrev Inv-loop : tie.InvT-loop
-Inv-loop page₀ top end left right count bits₀ k₀ page bits k = (top ≤ k) × (k ≤ end) × Redone page₀ page (inRange k end)
-    (λ j. overlaid (row page₀ j) left right (row page₀ (j - count))) bits
+Inv-loop page₀ top end left right count column bits₀ k₀ page bits k = (top ≤ k) × (k ≤ end) × Redone page₀ page (inRange k end)
+    (λ j. overlaidFrom (row page₀ j) left right (row page₀ (j - count)) column) bits
 
 abbrev μ-loop : tie.MeasureT-loop
-μ-loop page₀ top end left right count bits₀ k₀ page bits k = k
+μ-loop page₀ top end left right count column bits₀ k₀ page bits k = k
 
 loop-again : tie.Need-loop-again Inv-loop μ-loop
 loop-again c =
@@ -32,18 +32,20 @@ loop-again c =
     let from : up ≡ k - a .count = omega arith in (
       omega arith,
       omega arith,
-      block-down {f = λ j. overlaid (row (l .loop .page) j) (a .left) (a .right) (row (l .loop .page) up)} R (m .lower-row .ensures)
-          (ap₂ (λ (x y : List ℕ). overlaid x (a .left) (a .right) y) (block-old R k (inl (omega arith)))
+      block-down {f = λ j. overlaidFrom (row (l .loop .page) j) (a .left) (a .right) (row (l .loop .page) up) (a .column)} R (m .lower-row .ensures)
+          (ap₂ (λ (x y : List ℕ). overlaidFrom x (a .left) (a .right) y (a .column)) (block-old R k (inl (omega arith)))
           (block-old R up (inl (omega arith)) ∙ ap (row (a .page .now)) from))
           (omega arith) (l .loop .inv .1),
     )
 
 returns-2 : tie.Need-returns-2 Inv-loop μ-loop
 returns-2 c =
-    let a = c .before .before .args in
+    let s = c .before .before in
+    let a = s .args in
     let p = a .page .now in
-    let none : (j : ℕ) → j - a .count ≡ j = λ j. omega arith in
-    block-same p _ _ _ (λ j. ap (λ (i : ℕ). overlaid (row p j) (a .left) (a .right) (row p i)) (none j) ∙ paste-self (row p j) (a .left) (a .right - a .left))
+    let same : (j : ℕ) → j - a .count ≡ j = λ j. omega arith in
+    block-same p _ _ _ (λ j. ap₂ (λ (i x : ℕ). overlaidFrom (row p j) (a .left) (a .right) (row p i) x) (same j) (s .pre .3 (omega arith))
+    ∙ paste-self (row p j) (a .left) (a .right - a .left))
 
 pub lower-rows-spec : {M : Type 1} → statement M
 lower-rows-spec =

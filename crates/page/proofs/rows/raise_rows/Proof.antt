@@ -6,17 +6,17 @@ use mathlib.Core.Logic.{inr}
 use Prim.Native.Nat.{ℕ, _+_, _-_}
 use native.Mathlib.Omega.{arith}
 use Rattle.cells.specs.Rows.{row}
-use Rattle.page.specs.Edits.{overlaid}
+use Rattle.page.specs.Edits.{overlaidFrom}
 use Rattle.page.proofs.Blocks.{Upward, up-none, up-next, up-all, block-old}
 use Rattle.page.proofs.rows.raise_rows.Statement.{statement}
 use Rattle.page.proofs.rows.raise_rows.Tie as tie
 
 abbrev Inv-loop : tie.InvT-loop
-Inv-loop page₀ top end left right count bits₀ k₀ page bits k = Upward top end page₀ (λ j. overlaid (row page₀ j) left right (row page₀ (j + count))) page
-    bits k
+Inv-loop page₀ top end left right count column bits₀ k₀ page bits k =
+    Upward top end page₀ (λ j. overlaidFrom (row page₀ j) left right (row page₀ (j + count)) column) page bits k
 
 abbrev μ-loop : tie.MeasureT-loop
-μ-loop page₀ top end left right count bits₀ k₀ page bits k = end - k
+μ-loop page₀ top end left right count column bits₀ k₀ page bits k = end - k
 
 loop-again : tie.Need-loop-again Inv-loop μ-loop
 loop-again c =
@@ -25,8 +25,8 @@ loop-again c =
     let a = l .before .before .args in
     let k : ℕ = l .loop .k in
     up-next (l .loop .inv)
-    {f = λ j. overlaid (row (l .loop .page) j) (a .left) (a .right) (row (l .loop .page) (k + a .count))} (omega arith) (m .move-row .ensures)
-    (λ old. ap₂ (λ (x y : List ℕ). overlaid x (a .left) (a .right) y) old (block-old (l .loop .inv .2) (k + a .count) (inr (omega arith))))
+    {f = λ j. overlaidFrom (row (l .loop .page) j) (a .left) (a .right) (row (l .loop .page) (k + a .count)) (a .column)} (omega arith) (m .move-row .ensures)
+    (λ old. ap₂ (λ (x y : List ℕ). overlaidFrom x (a .left) (a .right) y (a .column)) old (block-old (l .loop .inv .2) (k + a .count) (inr (omega arith))))
 
 pub raise-rows-spec : {M : Type 1} → statement M
 raise-rows-spec =

@@ -7,4 +7,4 @@ pub modes-record-spec : {M : Type 1} → statement M
 modes-record-spec =
     tie.close (tie.spec
     (λ c κs. search needs) (λ c κs. search needs) (λ c κs. search needs) (λ c κs. search needs) (λ c κs. search needs) (λ c κs. search needs)
-    (λ c. cc))
+    (λ c κs. search needs) (λ c. cc))

@@ -39,8 +39,8 @@ index-edit-requires c κs =
     let start = stops .before .before .before in
     (start .pre .0 .paged .whole .parts .bounds .margins .low, rw (stops .stops-of .ensures) (omega arith))
 
-apply-requires : tie.Need-apply-requires
-apply-requires c κs =
+change-requires : tie.Need-change-requires
+change-requires c κs =
     let edit = c .before in
     let start = edit .before .before .before .before .before in
     let D = start .pre .0 in
@@ -68,10 +68,10 @@ returns c =
     let start = first .before .before .before .before in
     let core = coreOf start in
     rw (c .index .ensures ∙ ap (λ (u : Cursor). index u (core .margins .bottom) (core .rows)) (starts first))
-    (line-moves core (start .args .page .now) (a .apply .last .1 .0) (start .args .byte) (a .apply .result) (start .pre .0) (start .pre .1)
-    (a .apply .kept .1 .0) (rw (scrolls edit) at (a .apply .ensures)))
+    (line-moves core (start .args .page .now) (a .change .last .1 .0) (start .args .byte) (a .change .result) (start .pre .0) (start .pre .1)
+    (a .change .kept .1 .0) (rw (scrolls edit) at (a .change .ensures)))
 
 pub line-feed-spec : {M : Type 1} → statement M
 line-feed-spec =
     tie.close
-    (tie.spec (λ c κs. search needs) (λ c κs. search needs) index-edit-requires apply-requires index-requires (λ c. search needs) returns)
+    (tie.spec (λ c κs. search needs) (λ c κs. search needs) index-edit-requires change-requires index-requires (λ c. search needs) returns)
