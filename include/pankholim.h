@@ -39,7 +39,7 @@ extern "C" {
 
 /* The version of this header. pankholim_version is that of the library, as one number. */
 #define PANKHOLIM_VERSION_MAJOR 0
-#define PANKHOLIM_VERSION_MINOR 3
+#define PANKHOLIM_VERSION_MINOR 4
 #define PANKHOLIM_VERSION_PATCH 0
 #define PANKHOLIM_VERSION \
     (PANKHOLIM_VERSION_MAJOR * 65536 + PANKHOLIM_VERSION_MINOR * 256 + PANKHOLIM_VERSION_PATCH)

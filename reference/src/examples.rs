@@ -17,9 +17,10 @@ macro_rules! files {
 
 /// Every file in the directory of examples: its name without the ending, and
 /// its text.
-pub const FILES: [(&str, &str); 24] = files![
+pub const FILES: [(&str, &str); 25] = files![
     "calls",
     "changed-rows",
+    "colons",
     "controls",
     "cursor-shown",
     "erasing",

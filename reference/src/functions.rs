@@ -2,7 +2,7 @@
 
 use crate::cell::{Cell, Rendition, Set};
 use crate::page::{Page, COLUMNS};
-use crate::parser::Event;
+use crate::parser::{Event, Parameter};
 use crate::reply;
 use crate::state::{Cursor, Extent, Saved, Sets, Shift, Slot, State};
 
@@ -38,6 +38,7 @@ fn step(before: &Scene, change: impl FnOnce(&mut Scene)) -> Scene {
 /// One byte: the scene after its step or steps, and its reply.
 pub fn take(before: &Scene, byte: u8) -> (Scene, Vec<u8>) {
     let (parser, event) = before.state.parser.read(byte);
+    let event = without_subparameters(event);
     let reply = reply_to(&before.state, &event);
     let after = match event {
         Event::Print(byte) => match sign(&before.state, byte) {
@@ -71,7 +72,8 @@ pub fn take(before: &Scene, byte: u8) -> (Scene, Vec<u8>) {
                     parameters,
                     intermediates,
                     last,
-                } => scene.control_sequence(mark, &parameters, &intermediates, last),
+                    ..
+                } => scene.control_sequence(mark, &values(&parameters), &intermediates, last),
                 _ => Due::Kept,
             };
             match due {
@@ -82,6 +84,38 @@ pub fn take(before: &Scene, byte: u8) -> (Scene, Vec<u8>) {
         }),
     };
     (after, reply)
+}
+
+/// CSI m is left with the parameters that have no subparameters, perhaps none.
+/// Any other control sequence that has subparameters is ignored.
+fn without_subparameters(event: Event) -> Event {
+    let Event::ControlSequence {
+        mark,
+        mut parameters,
+        subparameters,
+        intermediates,
+        last,
+    } = event
+    else {
+        return event;
+    };
+    let selects_rendition = mark.is_none() && intermediates.is_empty() && last == b'm';
+    if selects_rendition {
+        parameters.retain(|parameter| !parameter.has_subparameters);
+    } else if subparameters {
+        return Event::Nothing;
+    }
+    Event::ControlSequence {
+        mark,
+        parameters,
+        subparameters: false,
+        intermediates,
+        last,
+    }
+}
+
+fn values(parameters: &[Parameter]) -> Vec<u32> {
+    parameters.iter().map(|p| p.value).collect()
 }
 
 /// The code and set that a byte prints, or none if it is ignored.
@@ -138,13 +172,14 @@ fn reply_to(state: &State, event: &Event) -> Vec<u8> {
             parameters,
             intermediates,
             last,
-        } if intermediates.is_empty() => match (mark, last, parameters[0]) {
-            (None, b'c', 0) => reply::primary_attributes(state),
-            (Some(b'>'), b'c', 0) => reply::secondary_attributes(state),
-            (None, b'n', 5) => reply::in_order(state),
-            (None, b'n', 6) => reply::position(state),
-            (Some(b'?'), b'n', 6) => reply::extended_position(state),
-            (Some(b'?'), b'n', 15) => reply::no_printer(state),
+            ..
+        } if intermediates.is_empty() => match (mark, last, values(parameters).first()) {
+            (None, b'c', Some(0)) => reply::primary_attributes(state),
+            (Some(b'>'), b'c', Some(0)) => reply::secondary_attributes(state),
+            (None, b'n', Some(5)) => reply::in_order(state),
+            (None, b'n', Some(6)) => reply::position(state),
+            (Some(b'?'), b'n', Some(6)) => reply::extended_position(state),
+            (Some(b'?'), b'n', Some(15)) => reply::no_printer(state),
             _ => Vec::new(),
         },
         _ => Vec::new(),

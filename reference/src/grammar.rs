@@ -79,10 +79,11 @@ enum Kind {
     OriginScene,
     EchoScene,
     RectangleScene,
+    ColonScene,
 }
 
 /// Every kind, with its usual weight.
-const KINDS: [(Kind, usize); 33] = [
+const KINDS: [(Kind, usize); 34] = [
     (Kind::Text, 30),
     (Kind::EdgeText, 15),
     (Kind::Controls, 15),
@@ -116,6 +117,7 @@ const KINDS: [(Kind, usize); 33] = [
     (Kind::OriginScene, 5),
     (Kind::EchoScene, 2),
     (Kind::RectangleScene, 8),
+    (Kind::ColonScene, 6),
 ];
 
 /// The weights for a seed: some kinds not at all, some seldom, one to three
@@ -248,6 +250,7 @@ impl Writer {
             Kind::OriginScene => self.origin_scene(),
             Kind::EchoScene => self.echo_scene(),
             Kind::RectangleScene => self.rectangle_scene(),
+            Kind::ColonScene => self.colon_scene(),
         }
     }
 
@@ -272,10 +275,51 @@ impl Writer {
         self.out.push(last);
     }
 
+    /// One of eight has a colon.
     fn csi(&mut self, parameters: &str, last: &str) {
         self.high_control(0x9B);
-        self.write(parameters.as_bytes());
+        let mut text = parameters.as_bytes().to_vec();
+        if self.random.below(8) == 0 {
+            self.put_colons(&mut text);
+        }
+        self.write(&text);
         self.write(last.as_bytes());
+    }
+
+    /// Colons for semicolons, or into the parameters; seldom before a mark.
+    fn put_colons(&mut self, text: &mut Vec<u8>) {
+        let is_mark = |byte: &u8| (0x3C..=0x3F).contains(byte);
+        let is_parameter = |byte: &u8| (0x30..=0x3B).contains(byte);
+        let marks = text.iter().take_while(|byte| is_mark(byte)).count();
+        let length = text[marks..].iter().take_while(|b| is_parameter(b)).count();
+        let end = marks + length;
+        let separators: Vec<usize> = (marks..end).filter(|&n| text[n] == b';').collect();
+        match self.random.below(8) {
+            0..=2 if !separators.is_empty() => {
+                let place = self.random.pick(&separators);
+                text[place] = b':';
+            }
+            3 => {
+                for place in separators {
+                    text[place] = b':';
+                }
+                text.insert(end, b':');
+            }
+            4 => {
+                let number = self.number();
+                text.splice(end..end, format!(":{number}").into_bytes());
+            }
+            5 => {
+                let count = self.random.pick(&[1, 2, 2, 3, 16, 20]);
+                text.splice(end..end, vec![b':'; count]);
+            }
+            6 if self.random.percent(30) => text.insert(0, b':'),
+            6 => text.insert(marks, b':'),
+            _ => {
+                let place = self.random.between(marks, end);
+                text.insert(place, b':');
+            }
+        }
     }
 
     fn number(&mut self) -> &'static str {
@@ -744,8 +788,8 @@ impl Writer {
         let numbers = self.numbers();
         self.write(numbers.as_bytes());
         if self.random.percent(15) {
-            // A mark elsewhere, or 3A.
-            let byte = self.random.byte(0x3A, 0x3F);
+            // A colon, or a mark elsewhere.
+            let byte = self.random.pick(b"::<=>?");
             self.out.push(byte);
             let numbers = self.numbers();
             self.write(numbers.as_bytes());
@@ -755,8 +799,8 @@ impl Writer {
             self.out.push(byte);
         }
         if self.random.percent(15) {
-            // A digit or 3B after an intermediate, or after what came before.
-            let byte = self.random.pick(b"0123456789;;;");
+            // A digit, 3A or 3B after an intermediate, or after what came before.
+            let byte = self.random.pick(b"0123456789;;;:::");
             self.out.push(byte);
         }
         let last = if self.random.percent(50) {
@@ -1015,6 +1059,10 @@ impl Writer {
                         "31$x",
                         ";;;;2;;;$v",
                         "9*x",
+                        "3:5H",
+                        "5;1:A",
+                        ":J",
+                        "?6:h",
                     ]);
                     self.csi(ignored, "");
                 }
@@ -1187,6 +1235,69 @@ impl Writer {
                 _ => self.looks(),
             }
         }
+    }
+
+    /// What makers' libraries send for a rendition, and lists of about sixteen
+    /// places with any of them a colon; then text.
+    fn colon_scene(&mut self) {
+        for _ in 0..self.random.between(1, 4) {
+            if self.random.percent(40) {
+                let count = self.random.pick(&[1, 2, 2, 3, 4]);
+                let own = [
+                    "4:3",
+                    "4:0",
+                    "38:2::255:128:0",
+                    "48:5:17",
+                    "58:2::1:2:3",
+                    "1",
+                    "5",
+                    "7",
+                    "22",
+                    "27",
+                    "0",
+                    "",
+                    ":",
+                    "7:",
+                    ":1",
+                    "1:22",
+                    "0:0",
+                ];
+                let list: Vec<&str> = (0..count).map(|_| self.random.pick(&own)).collect();
+                self.csi(&list.join(";"), "m");
+            } else {
+                self.places_with_colons();
+            }
+            let length = self.random.between(1, 6);
+            self.text(length);
+        }
+    }
+
+    fn places_with_colons(&mut self) {
+        let (mark, own, last): (&str, &[&str], &str) = self.random.pick(&[
+            ("", &["1", "4", "5", "7", "22", "24", "0", "", "9"][..], "m"),
+            ("", &["1", "4", "5", "7", "27", "25", "9"], "m"),
+            ("", &["2", "5", "9", "40"], "H"),
+            ("?", &["7", "6", "25", "9"], "h"),
+            ("?", &["7", "6", "25", "9"], "l"),
+            ("", &["4", "20", "9"], "h"),
+            ("", &["1", "4", "5", "7", "9", "3"], "$r"),
+            ("", &["1", "2", "3", ""], "$v"),
+        ]);
+        let count = self.random.pick(&[2, 3, 14, 15, 16, 16, 17, 17, 18, 20]);
+        // None, one or two, or many.
+        let colons = self.random.pick(&[0, 6, 12, 50]);
+        let mut text = mark.to_string();
+        for number in 0..count {
+            if number > 0 {
+                // What is dropped may have any.
+                let often = if number > 16 { 50 } else { colons };
+                text.push(if self.random.percent(often) { ':' } else { ';' });
+            }
+            text.push_str(self.random.pick(own));
+        }
+        self.high_control(0x9B);
+        self.write(text.as_bytes());
+        self.write(last.as_bytes());
     }
 
     fn origin_scene(&mut self) {

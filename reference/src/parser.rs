@@ -12,10 +12,11 @@ pub enum Parser {
     /// A control sequence.
     Control {
         mark: Option<u8>,
-        /// The parameters begun so far; none before the first digit or 3B.
-        parameters: Vec<u32>,
-        /// A seventeenth parameter, or a later one, is being dropped.
-        dropping: bool,
+        /// Every digit, 3A and 3B as it came. It is taken apart at the final.
+        text: Vec<u8>,
+        /// A script says that there is a subparameter, whether the text has
+        /// one or not. No byte that is read does so.
+        said: bool,
         intermediates: Vec<u8>,
     },
     /// A control sequence that is ignored through its final.
@@ -32,15 +33,24 @@ pub enum Parser {
 pub struct Given {
     /// 0 nothing in progress; 1, 2, 3 an escape sequence with no, one, two
     /// intermediates; 4 one that is ignored; 5 a control sequence of which
-    /// nothing is read; 6 one with a mark, digit or 3B read; 7, 8 one with one,
-    /// two intermediates; 9 one that is ignored; 10 a string.
+    /// nothing is read; 6 one with a mark, digit, 3A or 3B read; 7, 8 one with
+    /// one, two intermediates; 9 one that is ignored; 10 a string.
     pub phase: u8,
-    /// 0 is none.
+    /// The low seven bits are the private mark, 0 none. `SUBPARAMETER` more
+    /// says that a kept parameter has a subparameter.
     pub mark: u8,
     pub intermediates: [u8; MOST_INTERMEDIATES],
-    /// How many 3B were read, counted up to 16.
+    /// How many 3A and 3B were read, counted up to 16.
     pub separators: u8,
+    /// A number up to 9,999, or, with `SUBPARAMETER` in the mark, `MARKED`.
     pub values: [u16; MOST_PARAMETERS],
+}
+
+/// One of the parameters that 3B parts.
+#[derive(Clone, Copy, PartialEq, Eq, Debug)]
+pub struct Parameter {
+    pub value: u32,
+    pub has_subparameters: bool,
 }
 
 /// What a byte asks for, beyond the new parser.
@@ -63,15 +73,29 @@ pub enum Event {
     /// The end of a control sequence. There is at least one parameter.
     ControlSequence {
         mark: Option<u8>,
-        parameters: Vec<u32>,
+        parameters: Vec<Parameter>,
+        /// One of them has a subparameter, or a script said so.
+        subparameters: bool,
         intermediates: Vec<u8>,
         last: u8,
     },
 }
 
+/// Parameters and subparameters together.
 pub const MOST_PARAMETERS: usize = 16;
 pub const HIGHEST_PARAMETER: u32 = 9_999;
 pub const MOST_INTERMEDIATES: usize = 2;
+
+/// In the mark of a script's parser: a kept parameter has a subparameter.
+pub const SUBPARAMETER: u8 = 0x80;
+
+/// Among the values of such a parser: a subparameter, or a parameter that has
+/// one.
+pub const MARKED: u16 = 10_000;
+
+/// What stands for the latter in the text of a control sequence, where no byte that
+/// is read can put it.
+const MARK_SIGN: u8 = b'*';
 
 const NEW_ESCAPE: Parser = Parser::Escape {
     intermediates: Vec::new(),
@@ -79,8 +103,8 @@ const NEW_ESCAPE: Parser = Parser::Escape {
 
 const NEW_CONTROL: Parser = Parser::Control {
     mark: None,
-    parameters: Vec::new(),
-    dropping: false,
+    text: Vec::new(),
+    said: false,
     intermediates: Vec::new(),
 };
 
@@ -93,13 +117,14 @@ impl Parser {
             Parser::Escape { intermediates } => good_intermediates(intermediates),
             Parser::Control {
                 mark,
-                parameters,
+                text,
                 intermediates,
                 ..
             } => {
                 mark.map_or(true, |b| (0x3C..=0x3F).contains(&b))
-                    && parameters.len() <= MOST_PARAMETERS
-                    && parameters.iter().all(|&value| value <= HIGHEST_PARAMETER)
+                    && text
+                        .iter()
+                        .all(|&b| (0x30..=0x3B).contains(&b) || b == MARK_SIGN)
                     && good_intermediates(intermediates)
             }
             Parser::Given(given) => given.is_whole(),
@@ -141,10 +166,10 @@ impl Parser {
             },
             Parser::Control {
                 mark,
-                parameters,
-                dropping,
+                text,
+                said,
                 intermediates,
-            } => read_in_control(*mark, parameters, *dropping, intermediates, byte),
+            } => read_in_control(*mark, text, *said, intermediates, byte),
             Parser::ControlIgnored => match byte {
                 0x20..=0x3F => (Parser::ControlIgnored, Event::Nothing),
                 _ => (Parser::Ground, Event::Nothing),
@@ -155,17 +180,30 @@ impl Parser {
 }
 
 impl Given {
-    /// At most 16 parameters, none above 9,999; at most two intermediates, 20 to
-    /// 2F; mark none or 3C to 3F. No phase is exempt.
+    /// At most 16 parameters, each a number up to 9,999, or marked if one is
+    /// said to have a subparameter; at most two intermediates, 20 to 2F; private
+    /// mark none or 3C to 3F. No phase is exempt.
     pub fn is_whole(&self) -> bool {
-        let marks = self.mark == 0 || (0x3C..=0x3F).contains(&self.mark);
+        let marks = self
+            .private_mark()
+            .map_or(true, |b| (0x3C..=0x3F).contains(&b));
         let count = self.separators as usize <= MOST_PARAMETERS;
-        let low = |&value: &u16| value as u32 <= HIGHEST_PARAMETER;
+        let low = |&value: &u16| {
+            value as u32 <= HIGHEST_PARAMETER || value == MARKED && self.has_subparameter()
+        };
         let intermediate = |byte: &u8| (0x20..=0x2F).contains(byte);
         marks
             && count
             && self.parameters().iter().all(low)
             && self.counted_intermediates().iter().all(intermediate)
+    }
+
+    fn private_mark(&self) -> Option<u8> {
+        Some(self.mark & !SUBPARAMETER).filter(|&mark| mark != 0)
+    }
+
+    fn has_subparameter(&self) -> bool {
+        self.mark & SUBPARAMETER != 0
     }
 
     /// The first (separators + 1), 16 at most.
@@ -192,14 +230,29 @@ impl Given {
             4 => Parser::EscapeIgnored,
             5 => NEW_CONTROL,
             6..=8 => Parser::Control {
-                mark: Some(self.mark).filter(|&mark| mark != 0),
-                parameters: self.parameters().iter().map(|&v| v as u32).collect(),
-                dropping: self.separators as usize == MOST_PARAMETERS,
+                mark: self.private_mark(),
+                text: self.text(),
+                said: self.has_subparameter(),
                 intermediates,
             },
             9 => Parser::ControlIgnored,
             _ => Parser::String,
         }
+    }
+
+    /// A text with these parameters, parted by 3B.
+    fn text(&self) -> Vec<u8> {
+        let one = |&value: &u16| match value {
+            MARKED => vec![MARK_SIGN],
+            _ => value.to_string().into_bytes(),
+        };
+        let list: Vec<Vec<u8>> = self.parameters().iter().map(one).collect();
+        let mut text = list.join(&0x3B);
+        if self.separators as usize == MOST_PARAMETERS {
+            // What comes now is dropped.
+            text.push(0x3B);
+        }
+        text
     }
 }
 
@@ -238,81 +291,82 @@ fn read_in_escape(intermediates: &[u8], byte: u8) -> (Parser, Event) {
 /// A byte 20 to 7E in a control sequence.
 fn read_in_control(
     mark: Option<u8>,
-    parameters: &[u32],
-    dropping: bool,
+    text: &[u8],
+    said: bool,
     intermediates: &[u8],
     byte: u8,
 ) -> (Parser, Event) {
     let ignored = (Parser::ControlIgnored, Event::Nothing);
-    let first = mark.is_none() && parameters.is_empty() && intermediates.is_empty();
+    let first = mark.is_none() && text.is_empty() && intermediates.is_empty();
     match byte {
         0x20..=0x2F if intermediates.len() == MOST_INTERMEDIATES => ignored,
         0x20..=0x2F => (
             Parser::Control {
                 mark,
-                parameters: parameters.to_vec(),
-                dropping,
+                text: text.to_vec(),
+                said,
                 intermediates: [intermediates, &[byte]].concat(),
             },
             Event::Nothing,
         ),
-        0x30..=0x39 | 0x3B if !intermediates.is_empty() => ignored,
-        0x30..=0x39 | 0x3B => {
-            let (parameters, dropping) = gather(parameters, dropping, byte);
-            (
-                Parser::Control {
-                    mark,
-                    parameters,
-                    dropping,
-                    intermediates: Vec::new(),
-                },
-                Event::Nothing,
-            )
-        }
-        0x3C..=0x3F if first => (
+        0x30..=0x3B if !intermediates.is_empty() => ignored,
+        0x30..=0x3B => (
             Parser::Control {
-                mark: Some(byte),
-                parameters: Vec::new(),
-                dropping: false,
+                mark,
+                text: [text, &[byte]].concat(),
+                said,
                 intermediates: Vec::new(),
             },
             Event::Nothing,
         ),
-        0x3A | 0x3C..=0x3F => ignored,
-        _ => (
-            Parser::Ground,
-            Event::ControlSequence {
+        0x3C..=0x3F if first => (
+            Parser::Control {
+                mark: Some(byte),
+                text: Vec::new(),
+                said,
+                intermediates: Vec::new(),
+            },
+            Event::Nothing,
+        ),
+        0x3C..=0x3F => ignored,
+        _ => {
+            let parameters = parameters_in(text);
+            let event = Event::ControlSequence {
                 mark,
-                // None is one 0.
-                parameters: if parameters.is_empty() {
-                    vec![0]
-                } else {
-                    parameters.to_vec()
-                },
+                subparameters: said || parameters.iter().any(|p| p.has_subparameters),
+                parameters,
                 intermediates: intermediates.to_vec(),
                 last: byte,
-            },
-        ),
+            };
+            (Parser::Ground, event)
+        }
     }
 }
 
-/// The parameters after a digit or 3B.
-fn gather(parameters: &[u32], dropping: bool, byte: u8) -> (Vec<u32>, bool) {
-    let mut after = parameters.to_vec();
-    if after.is_empty() {
-        after.push(0);
-    }
-    if dropping {
-        return (after, true);
-    }
-    if byte == 0x3B {
-        if after.len() == MOST_PARAMETERS {
-            return (after, true);
+/// The parameters that are kept. Each parameter and each subparameter takes a
+/// place, in the order in which they came. A parameter is kept if its own place
+/// is one of the 16, whether there was one for its subparameters or not.
+fn parameters_in(text: &[u8]) -> Vec<Parameter> {
+    let mut kept = Vec::new();
+    let mut places = 0;
+    for whole in text.split(|&byte| byte == 0x3B) {
+        let pieces: Vec<&[u8]> = whole.split(|&byte| byte == 0x3A).collect();
+        if places < MOST_PARAMETERS {
+            kept.push(Parameter {
+                value: number(pieces[0]),
+                has_subparameters: pieces.len() > 1 || pieces[0].contains(&MARK_SIGN),
+            });
         }
-        after.push(0);
-    } else if let Some(value) = after.last_mut() {
-        let longer = *value * 10 + (byte - 0x30) as u32;
-        *value = longer.min(HIGHEST_PARAMETER);
+        places += pieces.len();
     }
-    (after, false)
+    kept
+}
+
+/// The number of some digits; none is 0, and 9,999 is the highest.
+fn number(digits: &[u8]) -> u32 {
+    let mut value = 0;
+    for digit in digits.iter().filter(|byte| byte.is_ascii_digit()) {
+        value = (value * 10 + (digit - b'0') as u32).min(HIGHEST_PARAMETER);
+    }
+    value
 }

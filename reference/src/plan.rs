@@ -1,12 +1,14 @@
 //! What is compared, as scripts. The fixed parts are always the same; the
 //! streams depend on a seed alone.
 
+mod colons;
 mod rectangles;
 
 use crate::examples;
 use crate::grammar::{stream, Random};
-use crate::parser::Given;
+use crate::parser::{Given, MARKED, SUBPARAMETER};
 use crate::script::*;
+pub use colons::*;
 pub use rectangles::*;
 
 pub const SIZES: [u16; 3] = [24, 36, 48];
@@ -15,7 +17,7 @@ pub const SIZES: [u16; 3] = [24, 36, 48];
 const ROOM: u16 = 12;
 
 /// The bytes of every file in the directory of captures.
-pub const CAPTURES: [(&str, &[u8]); 15] = [
+pub const CAPTURES: [(&str, &[u8]); 16] = [
     ("boot", include_bytes!("../../captures/boot.bytes")),
     ("damaged", include_bytes!("../../captures/damaged.bytes")),
     ("edge", include_bytes!("../../captures/edge.bytes")),
@@ -32,6 +34,7 @@ pub const CAPTURES: [(&str, &[u8]); 15] = [
         include_bytes!("../../captures/saved-form.bytes"),
     ),
     ("sets", include_bytes!("../../captures/sets.bytes")),
+    ("signal", include_bytes!("../../captures/signal.bytes")),
     ("status", include_bytes!("../../captures/status.bytes")),
     ("strings", include_bytes!("../../captures/strings.bytes")),
 ];
@@ -60,11 +63,19 @@ pub fn fixed_parts() -> Vec<Script> {
         fill_codes(),
         attributes(),
         rectangles_in_situations(),
+        colon_places(),
+        colon_renditions(),
+        colons_in_functions(),
+        colons_elsewhere(),
+        colons_in_each_phase(),
+        colons_in_calls(),
+        colon_rooms(),
         bytes_in_each_phase(),
         rooms(),
         broken_states(),
         parsers_at_the_edges(),
         parsers_that_go_on(),
+        marked_parsers(),
         wrong_lengths(),
         all_starts(),
     ]
@@ -770,7 +781,7 @@ fn feed_each(s: &mut Script, pieces: &[&[u8]]) {
 // ---- Every byte in each phase -----------------------------------------------
 
 /// Bytes that bring the parser into each of its phases.
-const PHASES: [&[u8]; 34] = [
+const PHASES: [&[u8]; 38] = [
     b"",
     b"\x1B",
     b"\x1B ",
@@ -799,6 +810,10 @@ const PHASES: [&[u8]; 34] = [
     b"\x1B[1\"!",
     b"\x1B[1!!!",
     b"\x1B[1:",
+    b"\x1B[:",
+    b"\x1B[4:3",
+    b"\x1B[;;;;;;;;;;;;;;;7:",
+    b"\x1B[;;;;;;;;;;;;;;;;7:",
     b"\x1B[1?",
     b"\x1B[??",
     b"\x1B[1!2",
@@ -813,10 +828,16 @@ const PHASES: [&[u8]; 34] = [
 pub fn bytes_in_each_phase() -> Script {
     let befores: [&[u8]; 2] = [b"", b"\x1B[2;4r\x1B[?7h\x1B*0\x1B[4;80Hz\x8E"];
     let markers: [&[u8]; 3] = [b";5H1x", b"3 5\"\x1B[;5H0q", b"%5Bx\x0Ey"];
+    // With a subparameter only m tells.
+    let after_colon: [&[u8]; 3] = [b";7m1x", b"4m0q", b":;5mx\x0Ey"];
     let mut s = Script::new();
     let mut number = 0usize;
     for before in befores {
         for phase in PHASES {
+            let markers = match phase.contains(&0x3A) {
+                true => after_colon,
+                false => markers,
+            };
             for byte in 0..=255u8 {
                 s.start_right(24);
                 s.feed(before, 0);
@@ -1045,69 +1066,103 @@ const IDLE: Given = Given {
     },
 };
 
-const MARKS: [u8; 8] = [0x00, 0x01, 0x3B, 0x3C, 0x3F, 0x40, 0x7F, 0xFF];
+/// Private marks at the edges, without and with the top bit.
+const MARKS: [u8; 15] = [
+    0x00, 0x01, 0x3B, 0x3C, 0x3F, 0x40, 0x7F, 0x80, 0x81, 0xBA, 0xBB, 0xBC, 0xBF, 0xC0, 0xFF,
+];
 const SEPARATORS: [u8; 7] = [0, 1, 14, 15, 16, 17, 255];
 const INTERMEDIATES: [u8; 4] = [0x1F, 0x20, 0x2F, 0x30];
 
-/// Every phase with every mark, number of separators, value and intermediate at
-/// and beyond its edge: is it whole? Then what is in progress is dropped.
-pub fn parsers_at_the_edges() -> Script {
+/// A phase with every mark, number of separators, value and intermediate at and
+/// beyond its edge.
+fn phase_at_the_edges(phase: u8) -> Vec<Given> {
     let mut list = Vec::new();
-    for phase in 0..11 {
-        for mark in MARKS {
-            for separators in SEPARATORS {
-                let kept = (separators as usize + 1).min(16);
-                let given = Given {
-                    phase,
-                    mark,
-                    intermediates: [0x20, 0x2F],
-                    separators,
-                    values: [0; 16],
-                };
-                list.push(given);
-                // The first, the last kept and the first not kept.
-                for place in [0, kept - 1, kept] {
-                    for value in [9_999, 10_000, 65_535] {
-                        let mut given = given;
-                        if place < 16 {
-                            given.values[place] = value;
-                            list.push(given);
-                        }
-                    }
-                }
-            }
-        }
-        // Every place with a value too high, whatever the separators.
-        for separators in 0..=17 {
-            for place in 0..16 {
-                let mut values = [9_999; 16];
-                values[place] = 10_000;
-                list.push(Given {
-                    phase,
-                    separators,
-                    values,
-                    intermediates: [0x2F, 0x20],
-                    ..IDLE
-                });
-            }
-        }
-        for first in INTERMEDIATES {
-            for second in INTERMEDIATES {
-                for (mark, separators) in [(0, 0), (0x3F, 1), (0x3C, 16), (0x3B, 0), (0, 17)] {
-                    list.push(Given {
-                        phase,
-                        mark,
-                        intermediates: [first, second],
-                        separators,
-                        values: [9_999; 16],
-                    });
+    for mark in MARKS {
+        for separators in SEPARATORS {
+            let kept = (separators as usize + 1).min(16);
+            let given = Given {
+                phase,
+                mark,
+                intermediates: [0x20, 0x2F],
+                separators,
+                values: [0; 16],
+            };
+            list.push(given);
+            // The first, a middle one, the last kept and the first not kept.
+            let mut places = vec![0, kept / 2, kept - 1, kept];
+            places.retain(|&place| place < 16);
+            places.dedup();
+            for place in places {
+                for value in [9_999, MARKED, MARKED + 1, 65_535] {
+                    let mut given = given;
+                    given.values[place] = value;
+                    list.push(given);
                 }
             }
         }
     }
-    // Every mark and every intermediate; a phase is taken modulo 11.
+    // Every place with a value too high, whatever the separators; the others
+    // as high as may be. In turn with and without the top bit, with which they
+    // are marked or not.
+    for separators in 0..=17 {
+        for place in 0..16 {
+            let turn = place + separators as usize + phase as usize;
+            let (mark, others, value) = match turn % 4 {
+                0 => (SUBPARAMETER, 9_999, MARKED + 1),
+                2 => (SUBPARAMETER, MARKED, MARKED + 1),
+                _ => (0, 9_999, MARKED),
+            };
+            let mut values = [others; 16];
+            values[place] = value;
+            list.push(Given {
+                phase,
+                mark,
+                separators,
+                values,
+                intermediates: [0x2F, 0x20],
+                ..IDLE
+            });
+        }
+    }
+    for first in INTERMEDIATES {
+        for second in INTERMEDIATES {
+            for (mark, separators) in [
+                (0, 0),
+                (0x3F, 1),
+                (0x3C, 16),
+                (0x3B, 0),
+                (0, 17),
+                (0x80, 0),
+                (0xBF, 16),
+            ] {
+                list.push(Given {
+                    phase,
+                    mark,
+                    intermediates: [first, second],
+                    separators,
+                    values: [9_999; 16],
+                });
+            }
+        }
+    }
+    list
+}
+
+/// Every phase with all of these: is it whole? Then what is in progress is
+/// dropped.
+pub fn parsers_at_the_edges() -> Script {
+    let mut list: Vec<Given> = (0..11).flat_map(phase_at_the_edges).collect();
+    // Every mark, without and with a marked place, and every intermediate; a
+    // phase is taken modulo 11.
+    let mut marked = IDLE;
+    marked.values[0] = MARKED;
     for byte in 0..=255 {
         list.push(Given { mark: byte, ..IDLE });
+        list.push(Given {
+            phase: 6,
+            mark: byte,
+            ..marked
+        });
         list.push(Given {
             phase: 2,
             intermediates: [byte, 0xFF],
@@ -1176,6 +1231,8 @@ fn parsers_left_by_bytes() -> Vec<(Given, Vec<&'static [u8]>)> {
         b" q",
         b"!!p",
         b":5H",
+        b":m",
+        b":;1m",
         b"?5H",
         b"<5H",
         b"\x7FH",

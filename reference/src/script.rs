@@ -607,14 +607,44 @@ mod tests {
             s.feed(b"x", 1);
             s.parser(&Given { phase: 5, ..given });
             s.ask();
+            // Its third value, 10,000, is none without the mark's top bit. With
+            // that, it marks a place: H is ignored. One more is nothing.
+            let three = Given {
+                separators: 2,
+                ..given
+            };
+            s.parser(&three);
+            s.ask();
+            s.parser(&Given {
+                mark: 0x80,
+                ..three
+            });
+            s.feed(b"H\x1B[6n", 8);
+            let mut values = values;
+            values[2] += 1;
+            s.parser(&Given {
+                mark: 0x80,
+                values,
+                ..three
+            });
+            s.ask();
+            // With the top bit alone H is ignored too.
+            s.parser(&Given {
+                mark: 0x80,
+                ..given
+            });
+            s.feed(b"H\x1B[6n", 8);
         });
-        let expected: [&[u8]; 6] = [
+        let expected: [&[u8]; 9] = [
             b"S\0",
             b"F\0\x06\0\x07\0\x1B[5;77R\xEE",
             b"A\x01\0\0\0\0\0\0\0\0\0",
             b"F\x01\0\0\0\0\xEE",
             b"A\0\0\0\0\0\0\0\0\0\0",
-            b"",
+            b"A\x01\0\0\0\0\0\0\0\0\0",
+            b"F\0\x05\0\x07\0\x1B[5;77R\xEE",
+            b"A\x01\0\0\0\0\0\0\0\0\0",
+            b"F\0\x05\0\x07\0\x1B[5;77R\xEE",
         ];
         assert_eq!(output, expected.concat());
     }

@@ -2,7 +2,7 @@
 //! and the requests that are met.
 
 mod common;
-use common::Console;
+use common::{parameters, Console};
 use reference::cell::{Rendition, Set};
 use reference::state::Shift;
 use reference::*;
@@ -196,21 +196,21 @@ fn what_is_not_whole() {
         }));
     }
     // The parser.
-    let control = |mark, parameters: Vec<u32>, intermediates: Vec<u8>| Parser::Control {
+    let control = |mark, text: &[u8], intermediates: Vec<u8>| Parser::Control {
         mark,
-        parameters,
-        dropping: false,
+        text: text.to_vec(),
+        said: false,
         intermediates,
     };
     assert!(!broken(
-        &|s| s.parser = control(Some(0x3C), vec![9999; 16], vec![0x20, 0x2F])
+        &|s| s.parser = control(Some(0x3C), b"0:9;99999:", vec![0x20, 0x2F])
     ));
-    assert!(broken(&|s| s.parser = control(None, vec![0; 17], vec![])));
-    assert!(broken(&|s| s.parser = control(None, vec![1, 10000], vec![])));
-    assert!(broken(&|s| s.parser = control(Some(0x3B), vec![], vec![])));
-    assert!(broken(&|s| s.parser = control(Some(0x40), vec![], vec![])));
-    assert!(broken(&|s| s.parser = control(None, vec![], vec![0x30])));
-    assert!(broken(&|s| s.parser = control(None, vec![], vec![0x20; 3])));
+    assert!(broken(&|s| s.parser = control(None, b"1?", vec![])));
+    assert!(broken(&|s| s.parser = control(None, b"1/", vec![])));
+    assert!(broken(&|s| s.parser = control(Some(0x3B), b"", vec![])));
+    assert!(broken(&|s| s.parser = control(Some(0x40), b"", vec![])));
+    assert!(broken(&|s| s.parser = control(None, b"", vec![0x30])));
+    assert!(broken(&|s| s.parser = control(None, b"", vec![0x20; 3])));
     let escape = |intermediates| Parser::Escape { intermediates };
     assert!(broken(&|s| s.parser = escape(vec![0x1F])));
     assert!(broken(&|s| s.parser = escape(vec![0x20; 3])));
@@ -224,9 +224,32 @@ fn what_is_not_whole() {
             values: [9999; 16],
         };
         let whole = |given: Given| !broken(&|s| s.parser = Parser::Given(given));
+        // The top bit of the mark says that there is a subparameter; then, and
+        // only then, 10,000 may be a value.
         for mark in 0..=255 {
-            let good = mark == 0 || (0x3C..=0x3F).contains(&mark);
+            let good = matches!(mark, 0 | 0x3C..=0x3F | 0x80 | 0xBC..=0xBF);
             assert_eq!(whole(Given { mark, ..given }), good);
+            for (value, with_top_bit) in [(9_999, true), (10_000, true), (10_001, false)] {
+                let good = match mark {
+                    0 | 0x3C..=0x3F => value == 9_999,
+                    0x80 | 0xBC..=0xBF => with_top_bit,
+                    _ => false,
+                };
+                let values = [value; 16];
+                let given = Given {
+                    mark,
+                    values,
+                    ..given
+                };
+                assert_eq!(whole(given), good);
+                assert_eq!(
+                    whole(Given {
+                        separators: 16,
+                        ..given
+                    }),
+                    good
+                );
+            }
         }
         for separators in 0..=255 {
             let good = separators <= 16;
@@ -238,15 +261,26 @@ fn what_is_not_whole() {
                 good
             );
             for place in 0..16 {
-                let mut values = given.values;
-                values[place] = 10_000;
-                let good = good && place > separators as usize;
-                let given = Given {
-                    separators,
-                    values,
-                    ..given
-                };
-                assert_eq!(whole(given), good);
+                for (mark, value, may_count) in [
+                    (0, 10_000, false),
+                    (0, 65_535, false),
+                    (0x3F, 10_000, false),
+                    (0x80, 10_000, true),
+                    (0x80, 10_001, false),
+                    (0xBC, 10_000, true),
+                    (0xBC, 65_535, false),
+                ] {
+                    let mut values = given.values;
+                    values[place] = value;
+                    let good = good && (may_count || place > separators as usize);
+                    let given = Given {
+                        mark,
+                        separators,
+                        values,
+                        ..given
+                    };
+                    assert_eq!(whole(given), good);
+                }
             }
         }
         let counted = match phase {
@@ -368,7 +402,7 @@ fn controls_inside_sequences_act_and_7f_is_skipped() {
     assert_eq!(c.word(2, 1), 0x71);
     assert_eq!(c.state.sets.g0, Set::SpecialGraphics);
     // Ignored sequences let controls act too.
-    let c = Console::fed(b"\x1B[1:\x0A2mx");
+    let c = Console::fed(b"\x1B[1?\x0A2mx");
     assert_eq!(c.at(), (2, 2, false));
     let c = Console::fed(b"\x1B !\"\x0A#Bx");
     assert_eq!(c.at(), (2, 2, false));
@@ -390,7 +424,7 @@ fn high_bytes_in_sequences_are_read_as_80_less() {
 #[test]
 fn ignored_through_the_final() {
     for ignored in [
-        &b"\x1B[5;5:H"[..],
+        &b"\x1B[5;5!:H"[..],
         b"\x1B[5?H",
         b"\x1B[??7h",
         b"\x1B[?<7h",
@@ -413,7 +447,7 @@ fn ignored_through_the_final() {
     }
     // An ignored escape sequence ends at 30 already, a control one at 40.
     assert_eq!(Console::fed(b"\x1B !\"08").line(1), "8");
-    assert_eq!(Console::fed(b"\x1B[:08@8").line(1), "8");
+    assert_eq!(Console::fed(b"\x1B[0?08@8").line(1), "8");
 }
 
 #[test]
@@ -629,21 +663,22 @@ fn sixteen_parameters_are_kept() {
     assert_eq!(c.at(), (5, 6, false));
 }
 
+fn values(bytes: &[u8]) -> Vec<u32> {
+    parameters(bytes).iter().map(|p| p.value).collect()
+}
+
 #[test]
 fn values_of_parameters() {
-    let parameters = |bytes: &[u8]| match Console::fed(bytes).state.parser {
-        Parser::Control { parameters, .. } => parameters,
-        other => panic!("{other:?}"),
-    };
     assert_eq!(
-        parameters(b"\x1B[9999;10000;99999;00012"),
+        values(b"\x1B[9999;10000;99999;00012m"),
         [9999, 9999, 9999, 12]
     );
     assert_eq!(
-        parameters(b"\x1B[99990;100000000000000000000;0"),
+        values(b"\x1B[99990;100000000000000000000;0m"),
         [9999, 9999, 0]
     );
-    assert_eq!(parameters(b"\x1B[;5;"), [0, 5, 0]);
+    assert_eq!(values(b"\x1B[;5;m"), [0, 5, 0]);
+    assert_eq!(values(b"\x1B[m"), [0]);
     // Empty is 0 and none is one 0: m clears.
     for clear in [&b"\x1B[m"[..], b"\x1B[0m", b"\x1B[;m", b"\x1B[1;m"] {
         let c = Console::fed(b"\x1B[1;4;5;7m").feed(clear);

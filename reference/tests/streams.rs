@@ -84,8 +84,8 @@ fn any_word_is_accepted() {
 /// The streams reach what they are for.
 #[test]
 fn streams_reach_the_edges() {
-    let mut seen = [0usize; 35];
-    for seed in 0..160 {
+    let mut seen = [0usize; 41];
+    for seed in 0..240 {
         let rows = [24, 36, 48][seed as usize % 3];
         let mut c = Console::of(rows);
         for byte in stream(seed, 3_000) {
@@ -115,6 +115,14 @@ fn streams_reach_the_edges() {
                 byte >= 0x20 && (intermediate, last) == (b'$', wanted) && c.page != page
             };
             let restyles = changes(b'r') || changes(b't');
+            // Colons: what is read of the parameters, at the end and before it.
+            let read = |state: &State| match &state.parser {
+                Parser::Control { text, .. } => text.clone(),
+                _ => Vec::new(),
+            };
+            let places = |text: &[u8]| text.iter().filter(|b| **b == b':' || **b == b';').count();
+            let colons = read(&before).contains(&b':') && s.parser == Parser::Ground;
+            let ends = |wanted: &[u8]| colons && byte >= 0x40 && wanted.contains(&last);
             let facts = [
                 s.cursor.wrap_due,
                 before.cursor.wrap_due && !s.cursor.wrap_due && s.cursor.column == 2,
@@ -135,7 +143,7 @@ fn streams_reach_the_edges() {
                 matches!(s.parser, Parser::ControlIgnored),
                 matches!(s.parser, Parser::EscapeIgnored),
                 matches!(s.parser, Parser::String),
-                matches!(&s.parser, Parser::Control { dropping: true, .. }),
+                places(&read(s)) >= 16,
                 s.saved.protection,
                 s.saved.shift.is_some(),
                 restored && !before.protection && s.protection,
@@ -151,6 +159,12 @@ fn streams_reach_the_edges() {
                 s.extent != before.extent,
                 restyles && s.extent == Extent::Stream,
                 restyles && s.extent == Extent::Rectangle,
+                ends(b"m"),
+                ends(b"m") && s.rendition != before.rendition,
+                ends(b"Hfr"),
+                ends(b"hl"),
+                ends(b"xzvt"),
+                colons && before.cursor.wrap_due,
             ];
             for (count, fact) in seen.iter_mut().zip(facts) {
                 *count += fact as usize;

@@ -633,6 +633,71 @@ static void test_extent(void)
     }
 }
 
+/* ---- subparameters */
+
+enum { VALUES = 8, MARK = 92, WITH_SUBPARAMETERS = 0x80 };
+
+/* SGR skips what has subparameters and obeys the rest. */
+static void test_subparameters(void)
+{
+    start_well(24);
+    feed_apart("\033[4:3;7mA\033[;:mB\033[1;4:3:2;27mC\033[0:1mD\033[?0:mE");
+    CHECK(reads(1920, 1, 1, 'A' | PANKHOLIM_REVERSE) && reads(1920, 1, 2, 'B'));
+    CHECK(reads(1920, 1, 3, 'C' | PANKHOLIM_BOLD) && reads(1920, 1, 4, 'D' | PANKHOLIM_BOLD) && reads(1920, 1, 5, 'E' | PANKHOLIM_BOLD));
+    /* One of the seventeenth parameter marks nothing; one that finds no place marks the sixteenth. */
+    feed_apart("\033[3;4;;;;;;;;;;;;;;;5:6H");
+    CHECK(cursor_is(PANKHOLIM_DONE, 3, 4, 0, 1));
+    feed_apart("\033[5;6;;;;;;;;;;;;;;7:H");
+    CHECK(cursor_is(PANKHOLIM_DONE, 3, 4, 0, 1));
+}
+
+/* Every other function with one in it is ignored: no reply, no row changed, and wrap due stays. */
+static void test_ignored_with_subparameters(void)
+{
+    static const char *const before[] = {
+        "1:2", ":", "2;3;2;4:", "?6:1", "?7;25:", ">0:", "6:1", "1:$", "1;1;5;5:2$", "2:*", "1:\"", ":!"
+    };
+    char sequence[32];
+    size_t i;
+    int last;
+
+    for (i = 0; i < sizeof before / sizeof before[0]; i++) {
+        start_well(24);
+        feed_apart("\033[?7h\033[1;80Hw");
+        CHECK(asks(1, 1));
+        for (last = 0x40; last <= 0x7E; last++) {
+            sprintf(sequence, "\033[%s%c", before[i], last);
+            CHECK(feed(1920, sequence, 64) == PANKHOLIM_DONE && replied == 0);
+            CHECK(asks(0, 0) && cursor_is(PANKHOLIM_DONE, 1, 80, 1, 1));
+        }
+        feed_apart("x");
+        CHECK(reads(1920, 2, 1, 'x'));
+    }
+}
+
+/* That there is one is a bit of the mark. Without it a value above 9,999 is refused, and with it one above 10,000. */
+static void test_record_with_subparameters(void)
+{
+    uint8_t *bytes = (uint8_t *)&record.terminal;
+    uint16_t *first = (uint16_t *)(void *)(bytes + VALUES);
+
+    start_well(24);
+    feed_apart("\033[4:3");
+    CHECK(bytes[MARK] == WITH_SUBPARAMETERS && *first == 10000);
+    *first = 10001;
+    CHECK(feed(1920, "", 0) == PANKHOLIM_BROKEN);
+    *first = 9999;
+    CHECK(feed(1920, "", 0) == PANKHOLIM_DONE);
+    *first = 10000;
+    CHECK(feed(1920, "", 0) == PANKHOLIM_DONE);
+    bytes[MARK] = 0;
+    CHECK(feed(1920, "", 0) == PANKHOLIM_BROKEN);
+    bytes[MARK] = WITH_SUBPARAMETERS + '?';
+    CHECK(feed(1920, "h", 0) == PANKHOLIM_DONE);
+    bytes[MARK] = WITH_SUBPARAMETERS + ';';
+    CHECK(feed(1920, "", 0) == PANKHOLIM_BROKEN);
+}
+
 /* ---- the version */
 
 static void test_version(void)
@@ -924,6 +989,9 @@ int main(int argc, char **argv)
     test_saved_cursor();
     test_rectangles();
     test_extent();
+    test_subparameters();
+    test_ignored_with_subparameters();
+    test_record_with_subparameters();
     test_version();
     test_text();
     test_text_of_every_word();

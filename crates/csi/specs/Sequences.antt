@@ -13,7 +13,7 @@ use Rattle.core.specs.declared.Margins.{Margins}
 use Rattle.core.specs.declared.Core.{Core}
 use Rattle.core.specs.declared.Decision.{Decision}
 use Rattle.ground.specs.Folds.{folded}
-use Rattle.parser.specs.Params.{param, paramN, paramList}
+use Rattle.parser.specs.Params.{param, paramN, paramList, numbers}
 use Rattle.parser.specs.Families.{isPlain, isPrivate, isProtection, isSoftReset, isRectangle, isExtent}
 use Rattle.device.specs.Tabs.{withoutTab, noTabs}
 use Rattle.device.specs.Cursor.{place, up, down, left, right, toColumn, offset}
@@ -160,8 +160,9 @@ rendered r v =
     (cond (eqb v 25) (withBlink r false)
     (cond (eqb v 27) (withReverse r false) r))))))))
 
+-- a subparameter is skipped, and so is a parameter that has one
 abbrev pub selectRendition : Core → Params → Decision
-selectRendition c q = unedited (withRendition c (folded rendered (c .rendition) (paramList q)))
+selectRendition c q = unedited (withRendition c (folded rendered (c .rendition) (numbers (paramList q))))
 
 -- " q (DECSCA): 1 protects, 0 and 2 don't
 abbrev pub selectProtection : Core → Params → Decision

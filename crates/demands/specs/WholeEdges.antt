@@ -252,6 +252,20 @@ marking s =
 abbrev pub marks : List Edge
 marks = marking (fresh 24) ++ marking (phase CsiParam (fresh 24))
 
+-- 80 more than a mark: a parameter has a subparameter, and a place may be joined; a number is at most 9,999 as ever
+abbrev joining : ℕ → State → List Edge
+joining m s =
+    whole (mark m (value 1 9999 s)) ∷ whole (mark m (value 1 10000 s)) ∷ broken (mark m (value 1 10001 s)) ∷ broken (mark m (value 1 65535 s))
+    ∷ whole (mark m (value 2 10001 s))
+    ∷ whole (mark m (separators 15 (value 16 10000 s))) ∷ broken (mark m (separators 15 (value 16 10001 s)))
+    ∷ broken (mark m (separators 17 s))
+    ∷ []
+
+abbrev pub subparameters : List Edge
+subparameters =
+    joining 0x80 (fresh 24) ++ joining 0x80 (phase CsiParam (fresh 24)) ++ joining 0xBC (fresh 24) ++ joining 0xBF (phase CsiOne (first 0x20 (fresh 24)))
+    ++ (broken (mark 0x81 (fresh 24)) ∷ broken (mark 0xBB (fresh 24)) ∷ broken (mark 0xC0 (fresh 24)) ∷ [])
+
 -- no changed row above R
 abbrev pub changes : List Edge
 changes =
@@ -267,7 +281,7 @@ others = whole (allElse (fresh 24)) ∷ whole (allElse (fresh 36)) ∷ whole (al
 
 abbrev pub table : List Edge
 table =
-    sizes ++ rows ++ columns ++ scrolling ++ wrapping ++ origins ++ saving ++ parameters ++ intermediates ++ marks ++ changes ++ others
+    sizes ++ rows ++ columns ++ scrolling ++ wrapping ++ origins ++ saving ++ parameters ++ intermediates ++ marks ++ subparameters ++ changes ++ others
 
 -- ---- the statement
 

@@ -12,7 +12,7 @@ use Rattle.cells.specs.Cells.{packed, unpacked, spaced, selectivelyErased, styl
 use Rattle.cells.specs.Rows.{joined}
 use Rattle.cells.specs.Sets.{bitsOf, added, sizeOf}
 use Rattle.page.specs.Edits.{applied}
-use Rattle.parser.specs.Params.{withDigit, withSeparator}
+use Rattle.parser.specs.Params.{withDigit, withJoined, withNext}
 use Rattle.parser.specs.Parser.{transition, decode}
 use Rattle.device.specs.Tabs.{withTab, withoutTab, nextAmong}
 use Rattle.core.specs.Fresh.{freshCore}
@@ -133,7 +133,7 @@ begun = record { state = fresh 24; page = blankPage 24 }
 
 -- an example holds
 unfoldable pub holds : List Line → Bool
-unfolding packed unpacked spaced selectivelyErased joined bitsOf added sizeOf applied withDigit withSeparator transition decode withTab withoutTab
+unfolding packed unpacked spaced selectivelyErased joined bitsOf added sizeOf applied withDigit withJoined withNext transition decode withTab withoutTab
     nextAmong freshCore wholeCore put printed substituted controlled c1Controlled escaped rendered softReset sequenced areaAt changeBy reverseBy
     restylingOf stylingNumber stylingOf restyled clearsWrap replyTo digitsIn decimal replyBytes
     executed decided sends acted stepped ran sent readable wholeState fed asked
@@ -168,7 +168,7 @@ p6a = query "\u{1b}[6n" 5 3 3 "" ∷ []
 abbrev pub p6b : List Line
 p6b = query "\u{1b}[6n" 6 0 4 "\u{1b}[1;1R" ∷ []
 
--- 7. CAN drops a sequence. 3A spoils one.
+-- 7. CAN drops a sequence. A with a subparameter is ignored.
 abbrev pub p7a : List Line
 p7a = send "\u{1b}[2\u{18}J" ∷ text 1 1 "J " ∷ []
 
@@ -262,6 +262,15 @@ spoilt = send "\u{1b}[1?JA\u{1b}[!!!pB\u{1b}[!0pC\u{1b}(((0D" ∷ text 1 1 "ABCD
 abbrev pub manyParameters : List Line
 manyParameters = send "\u{1b}[0;;;;;;;;;;;;;;;1mA\u{1b}[0;;;;;;;;;;;;;;;;1mB\u{1b}[99999DC" ∷ words 1 1 (0x0043 ∷ 0x0042 ∷ []) ∷ []
 
+-- CSI m skips a parameter that has subparameters, and obeys the others; another function with one in it is ignored. One that is dropped
+-- marks its parameter, if that is kept.
+abbrev pub subparameters : List Line
+subparameters =
+    send "\u{1b}[4:3;7mA\u{1b}[m\u{1b}[1;5:1HB\u{1b}[:1mC\u{1b}[7;4:mD\u{1b}[0:1mE\u{1b}[?0:mF\u{1b}[!:pG"
+    ∷ words 1 1 (0x1041 ∷ 0x0042 ∷ 0x0043 ∷ 0x1044 ∷ 0x1045 ∷ 0x1046 ∷ 0x1047 ∷ [])
+    ∷ send "\u{1b}[3;4;;;;;;;;;;;;;;;5:6H" ∷ cursor 3 4 false ∷ send "\u{1b}[5;6;;;;;;;;;;;;;;7:H" ∷ cursor 3 4 false
+    ∷ query "\u{1b}[6:1n" 64 0 6 "" ∷ []
+
 -- ESC c: a row that was noted stays noted, though ESC c does not change it; tabs and reply width are fresh.
 abbrev pub resetRules : List Line
 resetRules = send "\u{1b}[5;5Hx\u{8} \u{1b}[6;6Hy" ∷ send "\u{1b}[3g\u{1b} G\u{1b}c" ∷ rows (5 ∷ 6 ∷ []) ∷ send "\u{1b}c" ∷ rows [] ∷ send "\t"
@@ -277,7 +286,7 @@ abbrev pub table : List (List Line)
 table =
     p1 ∷ p2 ∷ p3 ∷ p4 ∷ p5 ∷ p6a ∷ p6b ∷ p7a ∷ p7b ∷ p8 ∷ p9 ∷ p10
     ∷ edgeOff ∷ edgeOn ∷ cutBetweenCalls ∷ extendedReport ∷ stopsBefore ∷ scrolled ∷ selective ∷ restored ∷ savedProtection ∷ savedShift
-    ∷ rectanglePainted ∷ rectangleEdges ∷ rectangleStyled ∷ spoilt ∷ manyParameters ∷ resetRules ∷ roomLeft
+    ∷ rectanglePainted ∷ rectangleEdges ∷ rectangleStyled ∷ spoilt ∷ manyParameters ∷ subparameters ∷ resetRules ∷ roomLeft
     ∷ []
 
 abbrev pub allHold : List (List Line) → Bool

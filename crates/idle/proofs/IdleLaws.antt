@@ -1,13 +1,13 @@
 -- Bytes that only move the parser: none, one, and some after others; ESC, CSI and its parameters are such bytes.
 use mathlib.Core.Path.{_≡_, refl, ap, _∙_}
-use mathlib.Core.Bool.{Bool, true, _&&_, _||_}
+use mathlib.Core.Bool.{Bool, true, cond, _&&_, _||_}
 use mathlib.Core.List.{List, [], _∷_, _++_}
 use Prim.Native.Nat.{ℕ, _+_, _≤_, _<_}
 use native.Mathlib.Nat.{le-refl}
 use native.Mathlib.Omega.{arith}
 use lib.Dec.{eqb, ltb}
-use lib.ListN.{length, getD}
-use borrow.Author.Tests.{not-true, eqb-true, ltb-true, ne-eqb, le-ltb, lt-ltb}
+use lib.ListN.{length, getD, take}
+use borrow.Author.Tests.{not-true, eqb-true, ltb-true, le-ltb, lt-ltb}
 use Rattle.parser.specs.declared.phases.Phase.{Phase}
 use Rattle.parser.specs.declared.phases.Phase.the-variants.{Escape, CsiEntry, CsiParam}
 use Rattle.parser.specs.declared.phases.Op.the-variants.{Ignore, Param}
@@ -15,13 +15,18 @@ use Rattle.parser.specs.declared.parser.Parser.{Parser}
 use Rattle.parser.specs.declared.parser.Action.the-variants.{Nothing}
 use Rattle.parser.specs.declared.parser.Decoded.{Decoded}
 use Rattle.idle.specs.declared.Idle.{Idle}
+use Rattle.parser.specs.Params.{joined, noParams, paramList, member}
+use Rattle.parser.specs.Families.{joinedMark}
 use Rattle.parser.specs.Parser.{to, transition, cleared, gathered, decode}
+use Rattle.parser.specs.Places.{places, areParameters}
+use Rattle.ground.specs.Folds.{folded}
 use Rattle.ground.specs.Tests.{between}
 use Rattle.idle.specs.Idle.{parsed, AllIdle, isParameter, isText, Skipped}
 use Rattle.ground.specs.Spans.{span}
 use Rattle.parser.specs.Phases.{phaseNumber, isString, takesParameters}
-use Rattle.ground.proofs.TestLaws.{and-left, and-right, or-cases, or-left, or-right, between-low, between-high}
+use Rattle.ground.proofs.TestLaws.{and-left, and-right, or-left, or-right, between-low, between-high}
 use Rattle.parser.proofs.SequenceLaws.{decode-by, in-parameters, lowered-low}
+use Rattle.parser.proofs.PlaceLaws.{places-read}
 use Rattle.ground.proofs.SpanLaws.{span-none, span-more, span-append}
 
 -- a byte that only moves the parser
@@ -98,20 +103,26 @@ pub csi-idle : (s : Parser) → s .phase ≡ Escape → decode s 0x5B ≡ moved 
 unfolding decode transition
 csi-idle s e = rw e
 
--- 30 to 39 and 3B
-range : (b : ℕ) → isParameter b ≡ true → (0x30 ≤ b) × (b < 0x3C) × (b ≡ 0x3A → ⊥)
-range b h =
-    or-cases (between 0x30 b 0x39) (eqb b 0x3B) h
-    (λ e. let l = between-low 0x30 b 0x39 e in let u = between-high 0x30 b 0x39 e in (l, omega arith, λ x. omega arith))
-    (λ e. let k = eqb-true b 0x3B e in (omega arith, omega arith, λ x. omega arith))
-
 parameter-idle : (s : Parser) (b : ℕ) → takesParameters (s .phase) ≡ true → isParameter b ≡ true → decode s b ≡ moved (gathered CsiParam s b)
 parameter-idle s b e h =
-    let r = range b h in
+    let low = between-low 0x30 b 0x3B h in
+    let high = between-high 0x30 b 0x3B h in
     decode-by s b _
-    (in-parameters b (to CsiParam Param) (omega arith) (omega arith)
-    (λ m. rw (le-ltb b 0x30 (r .0), ne-eqb b 0x3A (r .2), lt-ltb b 0x3C (r .1))) (s .phase) e)
+    (in-parameters b (to CsiParam Param) (omega arith) (omega arith) (λ m. rw (le-ltb b 0x30 low, lt-ltb b 0x3C (omega arith))) (s .phase) e)
     ∙ rw (lowered-low b (omega arith))
+
+all-gathered : (s : Parser) (xs : List ℕ) → takesParameters (s .phase) ≡ true → areParameters xs ≡ true → parsed s xs ≡ folded (gathered CsiParam) s xs
+unfolding parsed
+all-gathered s [] e h = refl
+all-gathered s (x ∷ xs) e h =
+    let more = all-gathered (gathered CsiParam s x) xs refl (and-right (isParameter x) (areParameters xs) h) in
+    rw (parameter-idle s x e (and-left (isParameter x) (areParameters xs) h)) more
+
+-- parameters, read where none is yet: the first 16 of their places are kept, and in the mark whether one of them is joined
+pub parameters-read : (s : Parser) (xs : List ℕ) → takesParameters (s .phase) ≡ true → s .params ≡ noParams → areParameters xs ≡ true
+    → let r = parsed s xs in let l = take 16 (places xs) in
+    (paramList (r .params) ≡ l) × (r .mark ≡ cond (member joined l) (joinedMark (s .mark)) (s .mark))
+parameters-read s xs e n h = rw (all-gathered s xs e h) (places-read s xs n h)
 
 -- one more parameter byte
 pub skipped-parameter :

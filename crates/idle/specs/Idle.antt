@@ -22,9 +22,9 @@ unfoldable pub AllIdle : Parser → List ℕ → Type 0
 AllIdle s [] = Unit {0}
 AllIdle s (b ∷ bs) = (decode s b .action ≡ Nothing) × AllIdle (decode s b .parser) bs
 
--- a digit or 3B
+-- a digit, 3A or 3B
 abbrev pub isParameter : ℕ → Bool
-isParameter b = between 0x30 b 0x39 || eqb b 0x3B
+isParameter b = between 0x30 b 0x3B
 
 -- the text of a string: all but CAN, SUB, ESC and 80 to 9F
 abbrev pub isText : ℕ → Bool

@@ -1,8 +1,11 @@
 // Bytes that only move the parser: ESC, CSI and its parameters, the text of a string.
 use ground::numbers::back;
 use ground::tests::between;
+use parser::families::joined_mark;
+use parser::params::JOINED;
 use parser::params::Params;
 use parser::params::appended;
+use parser::params::opened;
 use parser::parser::Parser;
 use parser::phases::Phase;
 use parser::phases::is_string;
@@ -21,11 +24,11 @@ pub struct Idle {
     pub next: usize,
 }
 
-// A digit or 3B.
+// A digit, 3A or 3B.
 fn is_parameter(byte: u8) -> bool
     ensures { λ r. ⌜ r ≡ isParameter byte ⌝ }
 {
-    between(0x30, byte, 0x39) | (byte == 0x3B)
+    between(0x30, byte, 0x3B)
 }
 
 fn parameter_at(input: &[u8], at: usize) -> bool
@@ -77,6 +80,7 @@ fn gather(parser: Parser, input: &[u8], from: usize) -> Idle
     let params = parser.params;
     let mut separators = params.separators;
     let mut values = params.values;
+    let mut mark = parser.mark;
     let mut phase = parser.phase;
     let mut i = from;
     while parameter_at(input, i) {
@@ -84,26 +88,26 @@ fn gather(parser: Parser, input: &[u8], from: usize) -> Idle
         let at = separators as usize;
         phase = Phase::CsiParam;
         i += 1;
-        if byte == 0x3B {
+        if byte < 0x3A {
+            if at < 16 {
+                values[at] = appended(values[at], back(byte, 0x30, 0));
+            }
+        } else {
+            if (byte == 0x3A) & (at < 16) {
+                mark = joined_mark(mark);
+                values[at] = JOINED;
+            }
             if at < 15 {
-                values[at + 1] = 0;
+                values[at + 1] = opened(byte);
                 separators += 1;
             } else {
                 separators = 16;
             }
-        } else if at < 16 {
-            values[at] = appended(values[at], back(byte, 0x30, 0));
         }
     }
     let params = Params { separators, values };
     Idle {
-        parser: Parser {
-            phase,
-            mark: parser.mark,
-            first: parser.first,
-            second: parser.second,
-            params,
-        },
+        parser: parser.with_params(phase, mark, params),
         next: i,
     }
 }

@@ -19,7 +19,7 @@ ghost use Rattle.pankholim.specs.Version.{version};
 
 const MAJOR: u32 = 0;
 
-const MINOR: u32 = 3;
+const MINOR: u32 = 4;
 
 const PATCH: u32 = 0;
 

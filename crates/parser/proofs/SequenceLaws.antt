@@ -9,8 +9,7 @@ use Rattle.parser.specs.declared.phases.Phase.the-variants.{Ground, CsiE
 use Rattle.parser.specs.declared.phases.Op.the-variants.{Ignore, Mark, CsiDispatch}
 use Rattle.parser.specs.declared.phases.Transition.{Transition}
 use Rattle.parser.specs.declared.parser.Parser.{Parser}
-use Rattle.parser.specs.declared.parser.Action.the-variants.{ControlSequence}
-use Rattle.parser.specs.Parser.{to, parameterRule, sequenceRule, lowered, transition, inPhase, kept, actionOf, decode}
+use Rattle.parser.specs.Parser.{to, parameterRule, sequenceRule, lowered, transition, inPhase, kept, sequenceAction, actionOf, decode}
 use Rattle.ground.specs.Tests.{between}
 use Rattle.parser.specs.Phases.{phaseNumber, isPhase, isGround, isString, takesParameters, intermediates}
 use Rattle.ground.proofs.TestLaws.{and-left, and-right, or-cases, between-low, between-high}
@@ -46,7 +45,7 @@ lowered-low b h = rw (lt-leb 0x80 b h)
 
 -- the end of a control sequence
 pub final-decode : (s : Parser) (b : ℕ) → (takesParameters (s .phase) && between 0x40 b 0x7E) ≡ true
-    → decode s b ≡ record { parser = inPhase Ground s; action = ControlSequence (s .mark) 0 0 b }
+    → decode s b ≡ record { parser = inPhase Ground s; action = sequenceAction (s .mark) 0 0 b }
 final-decode s b both =
     let e = and-left (takesParameters (s .phase)) (between 0x40 b 0x7E) both in
     let h = and-right (takesParameters (s .phase)) (between 0x40 b 0x7E) both in
@@ -55,5 +54,5 @@ final-decode s b both =
     let none : intermediates (s .phase) ≡ 0 = parameter-phases (s .phase) (λ n. rw n) (λ n. rw n) e in
     decode-by s b _
     (in-parameters b (to Ground CsiDispatch) (omega arith) (omega arith)
-    (λ m. rw (le-ltb b 0x30 (omega arith), ne-eqb b 0x3A (omega arith), le-ltb b 0x3C (omega arith), le-ltb b 0x40 l)) (s .phase) e)
+    (λ m. rw (le-ltb b 0x30 (omega arith), le-ltb b 0x3C (omega arith), le-ltb b 0x40 l)) (s .phase) e)
     ∙ rw (none, lowered-low b (omega arith))

@@ -3,3 +3,4 @@ pub mod Parser
 pub mod Families
 pub mod WholeParser
 pub mod Phases
+pub mod Places

@@ -1,4 +1,7 @@
 // The parser: where it stands in a sequence, and what a byte asks for.
+use crate::families::is_joined;
+use crate::families::is_joined_rendition;
+use crate::families::joined_mark;
 use crate::params::Params;
 use crate::phases::Op;
 use crate::phases::Phase;
@@ -10,7 +13,7 @@ use ground::tests::between;
 ghost use mathlib.Core.Path.{_≡_};
 ghost use Rattle.parser.specs.Parser as parsing;
 
-// `mark` is 0 where the sequence has none. `first` and `second` are the intermediates.
+// `mark` is 0 where the sequence has none, and 80 more with subparameters (families.rt). `first` and `second` are the intermediates.
 pub struct Parser {
     pub phase: Phase,
     pub mark: u8,
@@ -61,6 +64,18 @@ fn c1_byte(byte: u8) -> u8
     }
 }
 
+// SGR is read as without subparameters.
+fn sequence_action(mark: u8, first: u8, second: u8, last: u8) -> Action
+    ensures { λ r. ⌜ r ≡ parsing.sequenceAction mark first second last ⌝ }
+{
+    Action::ControlSequence {
+        mark: pick(is_joined_rendition(mark, first, second, last), 0, mark),
+        first,
+        second,
+        last,
+    }
+}
+
 impl Parser {
     // Nothing read yet, in a phase.
     pub fn cleared(phase: Phase) -> Self
@@ -103,13 +118,38 @@ impl Parser {
         }
     }
 
+    // A mark says nothing of subparameters.
     fn with_mark(self, phase: Phase, x: u8) -> Self
         ensures { λ r. ⌜ r ≡ parsing.withMark phase self x ⌝ }
     {
         let params = self.params;
         Parser {
             phase,
-            mark: x,
+            mark: pick(is_joined(self.mark), joined_mark(x), x),
+            first: self.first,
+            second: self.second,
+            params,
+        }
+    }
+
+    // That a parameter which is kept has a subparameter shows in the mark.
+    fn mark_after(self, x: u8) -> u8
+        ensures { λ r. ⌜ r ≡ parsing.markAfter self x ⌝ }
+    {
+        let params = self.params;
+        if params.joins(x) {
+            joined_mark(self.mark)
+        } else {
+            self.mark
+        }
+    }
+
+    pub fn with_params(self, phase: Phase, mark: u8, params: Params) -> Self
+        ensures { λ r. ⌜ r ≡ parsing.withParams phase self mark params ⌝ }
+    {
+        Parser {
+            phase,
+            mark,
             first: self.first,
             second: self.second,
             params,
@@ -120,13 +160,7 @@ impl Parser {
         ensures { λ r. ⌜ r ≡ parsing.gathered phase self x ⌝ }
     {
         let params = self.params;
-        Parser {
-            phase,
-            mark: self.mark,
-            first: self.first,
-            second: self.second,
-            params: params.take(x),
-        }
+        self.with_params(phase, self.mark_after(x), params.take(x))
     }
 
     // What the parser keeps of a byte.
@@ -173,12 +207,12 @@ impl Parser {
                 second: self.second_of(),
                 last: byte % 128,
             },
-            Op::CsiDispatch => Action::ControlSequence {
-                mark: self.mark,
-                first: self.first_of(),
-                second: self.second_of(),
-                last: byte % 128,
-            },
+            Op::CsiDispatch => sequence_action(
+                self.mark,
+                self.first_of(),
+                self.second_of(),
+                byte % 128,
+            ),
             _ => Action::Nothing,
         }
     }
@@ -191,12 +225,7 @@ impl Parser {
         if takes_parameters(phase) & between(0x40, byte, 0x7E) {
             return Decoded {
                 parser: self.in_phase(Phase::Ground),
-                action: Action::ControlSequence {
-                    mark: self.mark,
-                    first: 0,
-                    second: 0,
-                    last: byte,
-                },
+                action: sequence_action(self.mark, 0, 0, byte),
             };
         }
         let step = transition(phase, byte);

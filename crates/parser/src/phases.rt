@@ -34,7 +34,7 @@ pub enum Op {
     Collect,
     // A private mark.
     Mark,
-    // A digit or 3B.
+    // A digit, 3A or 3B.
     Param,
     EscDispatch,
     CsiDispatch,

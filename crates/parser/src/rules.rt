@@ -61,9 +61,6 @@ fn parameter_rule(x: u8, marked: Transition) -> Transition
     if x < 0x30 {
         return to(Phase::CsiOne, Op::Collect);
     }
-    if x == 0x3A {
-        return to(Phase::CsiIgnore, Op::Ignore);
-    }
     if x < 0x3C {
         return to(Phase::CsiParam, Op::Param);
     }

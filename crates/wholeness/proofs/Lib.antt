@@ -11,3 +11,4 @@ pub mod SoundParser
 pub mod Sound
 pub mod SoundWords
 pub mod ReplyLength
+pub mod Subparameters

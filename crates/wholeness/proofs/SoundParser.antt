@@ -1,23 +1,25 @@
 -- Reading a byte keeps the parser whole.
 use mathlib.Core.Path.{_≡_, refl}
-use mathlib.Core.Bool.{Bool, true, false, cond, or-true}
+use mathlib.Core.Bool.{Bool, true, false, cond, _||_, or-true}
 use mathlib.Core.List.{List, [], _∷_}
-use Prim.Native.Nat.{ℕ, zero, suc, _+_, _-_, _≤_, min}
+use Prim.Native.Nat.{ℕ, zero, suc, _+_, _-_, _≤_, _<_, min, zero-le}
+use native.Mathlib.Nat.{le-refl}
 use native.Mathlib.Omega.{arith}
 use lib.Dec.{eqb, leb, ltb}
-use lib.ListN.{take, set}
-use borrow.Author.Tests.{eqb-true, leb-false, le-leb, ltb-true, ltb-false}
+use lib.ListN.{getD, take, set}
+use borrow.Author.Tests.{eqb-true, leb-true, leb-false, le-leb, lt-leb, ltb-true, ltb-false}
 use Rattle.parser.specs.declared.params.Params.{Params}
 use Rattle.parser.specs.declared.phases.Phase.{Phase}
 use Rattle.parser.specs.declared.phases.Phase.the-variants.{EscapeOne, CsiParam, CsiOne}
 use Rattle.parser.specs.declared.phases.Transition.{Transition}
 use Rattle.parser.specs.declared.phases.Op.{Op}
 use Rattle.parser.specs.declared.parser.Parser.{Parser}
-use Rattle.parser.specs.Params.{paramCount, paramList, withDigit, withSeparator, noneAbove}
+use Rattle.parser.specs.Params.{joined, paramCount, paramList, appended, withDigit, joins, withJoined, withNext, opened, withByte, noneAbove}
 use Rattle.parser.specs.Phases.{phaseNumber, isPhase, intermediates}
-use Rattle.parser.specs.Parser.{to, cleared, inPhase, withMark, collected, gathered, kept, lowered, transition, decode}
+use Rattle.parser.specs.Parser.{to, cleared, inPhase, withMark, markAfter, collected, gathered, kept, lowered, transition, decode}
 use Rattle.ground.specs.Tests.{between}
-use Rattle.parser.specs.WholeParser.{WholeParser}
+use Rattle.parser.specs.Families.{isJoined, joinedMark}
+use Rattle.parser.specs.WholeParser.{highest, isMark, WholeParser}
 use Rattle.ground.proofs.TestLaws.{either, and-left, and-right, in-between}
 
 -- ---- parameters
@@ -36,29 +38,127 @@ next-none-above m zero (y ∷ l) x e h = rw (le-leb x m h)
 next-none-above m (suc n) (y ∷ l) x e h =
     rw (and-left (leb y m) (noneAbove m (take n l)) e) (next-none-above m n l x (and-right (leb y m) (noneAbove m (take n l)) e) h)
 
--- parameters that a whole parser has
-record Kept (q : Params) : Type 0 where
-  few : q .separators ≤ 16
-  small : noneAbove 9999 (paramList q) ≡ true
+-- a higher bound
+raise-none-above : (m k : ℕ) (l : List ℕ) → m ≤ k → noneAbove m l ≡ true → noneAbove k l ≡ true
+raise-none-above m k [] h e = refl
+raise-none-above m k (y ∷ l) h e =
+    let low = leb-true y m (and-left (leb y m) (noneAbove m l) e) in
+    rw (le-leb y k (omega arith)) (raise-none-above m k l h (and-right (leb y m) (noneAbove m l) e))
 
-kept-digit : (q : Params) (d : ℕ) → Kept q → Kept (withDigit q d)
+-- what is read is not above it
+at-none-above : (m n : ℕ) (l : List ℕ) (i : ℕ) → noneAbove m (take n l) ≡ true → i < n → getD l i 0 ≤ m
+at-none-above m n [] i e h = omega arith
+at-none-above m (suc n) (y ∷ l) zero e h = leb-true y m (and-left (leb y m) (noneAbove m (take n l)) e)
+at-none-above m (suc n) (y ∷ l) (suc i) e h = at-none-above m n l i (and-right (leb y m) (noneAbove m (take n l)) e) (omega arith)
+
+-- parameters that a whole parser has, by the greatest value
+record Kept (m : ℕ) (q : Params) : Type 0 where
+  few : q .separators ≤ 16
+  small : noneAbove m (paramList q) ≡ true
+
+appended-small : (m v d : ℕ) → 9999 ≤ m → v ≤ m → appended v d ≤ m
+appended-small m v d h k = either (λ (x : ℕ). x ≤ m) (eqb v joined) (λ e. omega (arith, eqb-true v joined e)) (λ _. omega arith)
+
+kept-digit : (m : ℕ) (q : Params) (d : ℕ) → 9999 ≤ m → Kept m q → Kept m (withDigit q d)
 unfolding withDigit
-kept-digit q d k =
-    either Kept (ltb (q .separators) 16)
-    (λ e. record { few = k .few; small = set-none-above 9999 (paramCount q) (q .values) (q .separators) _ (k .small) (omega arith) })
+kept-digit m q d h k =
+    let i = q .separators in
+    either (Kept m) (ltb i 16)
+    (λ e.
+    let l = ltb-true i 16 e in
+    let v = at-none-above m (paramCount q) (q .values) i (k .small) (omega arith) in
+    record { few = k .few; small = set-none-above m (paramCount q) (q .values) i _ (k .small) (appended-small m (getD (q .values) i 0) d h v) })
     (λ e. k)
 
-kept-separator : (q : Params) → Kept q → Kept (withSeparator q)
-unfolding withSeparator
-kept-separator q k =
+kept-joined : (q : Params) (x : ℕ) → Kept joined q → Kept joined (withJoined q x)
+unfolding withJoined
+kept-joined q x k =
+    either (Kept joined) (joins q x)
+    (λ _. record { few = k .few; small = set-none-above joined (paramCount q) (q .values) (q .separators) joined (k .small) (le-refl joined) })
+    (λ _. k)
+
+withJoined-not : (q : Params) (x : ℕ) → joins q x ≡ false → withJoined q x ≡ q
+unfolding withJoined
+withJoined-not q x e = rw e
+
+kept-next : (m : ℕ) (q : Params) (v : ℕ) → (q .separators < 15 → v ≤ m) → Kept m q → Kept m (withNext q v)
+unfolding withNext
+kept-next m q v h k =
     let i = q .separators in
-    either Kept (ltb i 15)
+    either (Kept m) (ltb i 15)
     (λ e.
     let l = ltb-true i 15 e in
     let now : paramCount q ≡ i + 1 = omega arith in
     let then : min (i + 1 + 1) 16 ≡ suc (i + 1) = omega arith in
-    record { few = omega arith; small = rw then (next-none-above 9999 (i + 1) (q .values) 0 (rw now at (k .small)) (omega arith)) })
+    record { few = omega arith; small = rw then (next-none-above m (i + 1) (q .values) v (rw now at (k .small)) (h l)) })
     (λ e. let all : paramCount q ≡ 16 = omega (arith, k .few, ltb-false i 15 e) in record { few = omega arith; small = rw all at (k .small) })
+
+-- ---- the mark
+
+mark-joined : (m : ℕ) → isMark m ≡ true → isMark (joinedMark m) ≡ true
+mark-joined m h =
+    either (λ (x : ℕ). isMark x ≡ true) (leb 0x80 m) (λ _. h)
+    (λ e. let low : leb 0x80 (m + 0x80) ≡ true = le-leb 0x80 (m + 0x80) (omega arith) in
+    let same : m + 0x80 - 0x80 ≡ m = omega arith in
+    let was : (eqb m 0 || between 0x3C m 0x3F) ≡ true = rw e at h in
+    rw (low, same) was)
+
+joined-highest : (m : ℕ) → highest (joinedMark m) ≡ joined
+joined-highest m =
+    either (λ (x : ℕ). highest x ≡ joined) (leb 0x80 m) (λ e. rw e) (λ _. rw (le-leb 0x80 (m + 0x80) (omega arith)))
+
+highest-joined : (m : ℕ) → highest m ≤ joined
+highest-joined m = either (λ (x : ℕ). x ≤ joined) (isJoined m) (λ _. omega arith) (λ _. omega arith)
+
+number-low : (m : ℕ) → 9999 ≤ highest m
+number-low m = either (λ (x : ℕ). 9999 ≤ x) (isJoined m) (λ _. omega arith) (λ _. omega arith)
+
+-- one byte of the parameters
+record Read (m : ℕ) (q : Params) : Type 0 where
+  mark : isMark m ≡ true
+  kept : Kept (highest m) q
+
+marked : (m x : ℕ) (q : Params) → 0x3C ≤ x → x < 0x40 → Kept (highest m) q → Read (cond (isJoined m) (joinedMark x) x) q
+marked m x q l u k =
+    let high : leb 0x80 x ≡ false = lt-leb 0x80 x (omega arith) in
+    let on : isMark x ≡ true = rw (high, in-between 0x3C x 0x3F l (omega arith), or-true) in
+    either (λ (n : ℕ). Read n q) (isJoined m)
+    (λ e. record { mark = mark-joined x on; kept = rw (joined-highest) (rw e at k) })
+    (λ e. record { mark = on; kept = rw high (rw e at k) })
+
+module _ (s : Parser) (x : ℕ) (k : Read (s .mark) (s .params)) where
+  abbrev bound : ℕ
+  bound = highest (s .mark)
+
+  abbrev q : Params
+  q = s .params
+
+  joining : joins q x ≡ true → Read (joinedMark (s .mark)) (withByte q x)
+  joining e =
+      let colon = eqb-true x 0x3A (and-left (eqb x 0x3A) (ltb (q .separators) 16) e) in
+      let low = raise-none-above bound joined (paramList q) (highest-joined (s .mark)) (k .kept .small) in
+      let up : Kept joined q = record { few = k .kept .few; small = low } in
+      let all : Kept joined (withNext (withJoined q x) joined) = kept-next joined (withJoined q x) joined (λ _. le-refl joined) (kept-joined q x up) in
+      record { mark = mark-joined (s .mark) (k .mark); kept = rw (joined-highest, colon) (rw colon at all) }
+
+  next : joins q x ≡ false → q .separators < 15 → opened x ≤ bound
+  next e l =
+      either (λ (v : ℕ). v ≤ bound) (eqb x 0x3A)
+      (λ c. let none : ltb (q .separators) 16 ≡ false = rw c at e in omega (arith, ltb-false (q .separators) 16 none))
+      (λ _. zero-le)
+
+  not-joining : joins q x ≡ false → Read (s .mark) (withByte q x)
+  not-joining e =
+      let same = withJoined-not q x e in
+      record {
+        mark = k .mark;
+        kept = either (Kept bound) (ltb x 0x3A)
+            (λ _. kept-digit bound q (x - 0x30) (number-low (s .mark)) (k .kept))
+            (λ _. rw same (kept-next bound q (opened x) (next e) (k .kept)));
+      }
+
+  read : Read (markAfter s x) (withByte q x)
+  read = either (λ (m : ℕ). Read m (withByte q x)) (joins q x) joining not-joining
 
 -- ---- the parser
 
@@ -107,15 +207,14 @@ module _ (s : Parser) (w : WholeParser s) where
 
     gather : WholeParser (gathered CsiParam s (lowered b))
     gather =
-        let k : Kept (s .params) = record { few = w .few; small = w .small } in
-        let j : Kept (cond (eqb (lowered b) 0x3B) (withSeparator (s .params)) (withDigit (s .params) (lowered b - 0x30))) =
-        either Kept (eqb (lowered b) 0x3B) (λ e. kept-separator (s .params) k) (λ e. kept-digit (s .params) (lowered b - 0x30) k) in
-        record { few = j .few; small = j .small; first = refl; second = refl; mark = w .mark }
+        let r = read s (lowered b) (record { mark = w .mark; kept = record { few = w .few; small = w .small } }) in
+        record { few = r .kept .few; small = r .kept .small; first = refl; second = refl; mark = r .mark }
 
     mark-whole : ltb (lowered b) 0x3C ≡ false → ltb (lowered b) 0x40 ≡ true → WholeParser (withMark CsiParam s (lowered b))
     mark-whole n e =
-        let on : between 0x3C (lowered b) 0x3F ≡ true = in-between 0x3C (lowered b) 0x3F (ltb-false (lowered b) 0x3C n) (omega (arith, ltb-true)) in
-        record { few = w .few; small = w .small; first = refl; second = refl; mark = rw (on, or-true) }
+        let x = lowered b in
+        let r = marked (s .mark) x (s .params) (ltb-false x 0x3C n) (ltb-true x 0x40 e) (record { few = w .few; small = w .small }) in
+        record { few = r .kept .few; small = r .kept .small; first = refl; second = refl; mark = r .mark }
 
     pub decode-whole : WholeParser (decode s b .parser)
     unfolding decode transition

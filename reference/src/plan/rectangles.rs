@@ -103,7 +103,7 @@ fn margins_and_origin(s: &mut Script) {
 }
 
 /// The state, the changed rows, and every cell.
-fn look_at_all(s: &mut Script) {
+pub(super) fn look_at_all(s: &mut Script) {
     s.view();
     s.ask();
     s.page();
@@ -161,7 +161,7 @@ fn begin(s: &mut Script, rows: u16, before: &[u8], origin: bool) {
     }
 }
 
-fn csi(rest: &str) -> Vec<u8> {
+pub(super) fn csi(rest: &str) -> Vec<u8> {
     [b"\x9B", rest.as_bytes()].concat()
 }
 
@@ -516,7 +516,7 @@ pub fn rectangles_in_situations() -> Script {
     s
 }
 
-fn begin_in(s: &mut Script, rows: u16, situation: usize) {
+pub(super) fn begin_in(s: &mut Script, rows: u16, situation: usize) {
     s.start_right(rows);
     mark(s, rows);
     origin_insert_wrap(s, situation % 8);

@@ -1,6 +1,7 @@
 //! A page, its state and all replies, for the tests.
 #![allow(dead_code)]
 
+use reference::parser::{Event, Parameter};
 use reference::*;
 
 pub struct Console {
@@ -88,5 +89,18 @@ impl Console {
                     .iter()
                     .all(|&w| w == 0x20)
             })
+    }
+}
+
+/// The parameters of the control sequence that the last byte ends.
+pub fn parameters(bytes: &[u8]) -> Vec<Parameter> {
+    let mut parser = Parser::Ground;
+    let mut event = Event::Nothing;
+    for &byte in bytes {
+        (parser, event) = parser.read(byte);
+    }
+    match event {
+        Event::ControlSequence { parameters, .. } => parameters,
+        other => panic!("{other:?}"),
     }
 }
