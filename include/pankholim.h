@@ -22,7 +22,8 @@
  *   address, is a record for a copy of its page.
  * - Every byte of a record is a field's, so what an unrefused start, feeding or asking leaves are the same 96 bytes
  *   wherever the state is the same.
- * - Cells of a page may hold any word.
+ * - Cells of a page may hold any word. Nothing of them reaches the modem: the answer of a feeding, *read, *replied,
+ *   the bytes replied, and the record but for its changed rows are the same over any page of the right length.
  * - Answers 1, 2 and 4 are refusals; they leave what was lent, but for what is said at the call. 1 is looked
  *   at before 2, and 2 before 4.
  * - Nothing outside the lengths given is read or written.

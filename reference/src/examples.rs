@@ -17,7 +17,7 @@ macro_rules! files {
 
 /// Every file in the directory of examples: its name without the ending, and
 /// its text.
-pub const FILES: [(&str, &str); 25] = files![
+pub const FILES: [(&str, &str); 26] = files![
     "calls",
     "changed-rows",
     "colons",
@@ -25,6 +25,7 @@ pub const FILES: [(&str, &str); 25] = files![
     "cursor-shown",
     "erasing",
     "inserting",
+    "leak",
     "margins",
     "origin",
     "parameters",

@@ -2,6 +2,7 @@
 //! streams depend on a seed alone.
 
 mod colons;
+mod leak;
 mod rectangles;
 
 use crate::examples;
@@ -9,6 +10,7 @@ use crate::grammar::{stream, Random};
 use crate::parser::{Given, MARKED, SUBPARAMETER};
 use crate::script::*;
 pub use colons::*;
+pub use leak::*;
 pub use rectangles::*;
 
 pub const SIZES: [u16; 3] = [24, 36, 48];
@@ -17,7 +19,7 @@ pub const SIZES: [u16; 3] = [24, 36, 48];
 const ROOM: u16 = 12;
 
 /// The bytes of every file in the directory of captures.
-pub const CAPTURES: [(&str, &[u8]); 16] = [
+pub const CAPTURES: [(&str, &[u8]); 17] = [
     ("boot", include_bytes!("../../captures/boot.bytes")),
     ("damaged", include_bytes!("../../captures/damaged.bytes")),
     ("edge", include_bytes!("../../captures/edge.bytes")),
@@ -29,6 +31,7 @@ pub const CAPTURES: [(&str, &[u8]); 16] = [
     ("margins", include_bytes!("../../captures/margins.bytes")),
     ("menu", include_bytes!("../../captures/menu.bytes")),
     ("meter", include_bytes!("../../captures/meter.bytes")),
+    ("probing", include_bytes!("../../captures/probing.bytes")),
     (
         "saved-form",
         include_bytes!("../../captures/saved-form.bytes"),
@@ -70,6 +73,7 @@ pub fn fixed_parts() -> Vec<Script> {
         colons_in_each_phase(),
         colons_in_calls(),
         colon_rooms(),
+        two_pages(),
         bytes_in_each_phase(),
         rooms(),
         broken_states(),
@@ -212,13 +216,13 @@ pub fn captures() -> Script {
 // ---- Every function at the edges --------------------------------------------
 
 /// A situation: how it is brought about, and about where the cursor then is.
-struct Preparation {
-    bytes: Vec<u8>,
-    row: u16,
-    column: u16,
+pub struct Preparation {
+    pub bytes: Vec<u8>,
+    pub row: u16,
+    pub column: u16,
 }
 
-fn preparations(rows: u16) -> Vec<Preparation> {
+pub fn preparations(rows: u16) -> Vec<Preparation> {
     let mut list = Vec::new();
     let mut add = |row: u16, column: u16, bytes: String| {
         list.push(Preparation {
@@ -337,7 +341,7 @@ fn preparations(rows: u16) -> Vec<Preparation> {
 
 /// Every listed function with parameters at the edges, every control, and signs
 /// at the edges of the sets.
-fn listed(rows: u16) -> Vec<Vec<u8>> {
+pub fn listed(rows: u16) -> Vec<Vec<u8>> {
     let mut list: Vec<Vec<u8>> = Vec::new();
     // Signs.
     for byte in [0x20, 0x21, 0x41, 0x5E, 0x5F, 0x71, 0x7E, 0x7F] {
@@ -864,19 +868,21 @@ pub fn bytes_in_each_phase() -> Script {
 
 // ---- The room for replies ---------------------------------------------------
 
+/// Every query, in each form.
+pub const QUERIES: [&[u8]; 9] = [
+    b"\x1B[c",
+    b"\x1B[0c",
+    b"\x9A",
+    b"\x1BZ",
+    b"\x1B[>c",
+    b"\x1B[5n",
+    b"\x1B[6n",
+    b"\x1B[?6n",
+    b"\x1B[?15n",
+];
+
 /// Every reply with every room from 0 to 13, with and without bytes after it.
 pub fn rooms() -> Script {
-    let queries: [&[u8]; 9] = [
-        b"\x1B[c",
-        b"\x1B[0c",
-        b"\x9A",
-        b"\x1BZ",
-        b"\x1B[>c",
-        b"\x1B[5n",
-        b"\x1B[6n",
-        b"\x1B[?6n",
-        b"\x1B[?15n",
-    ];
     let befores: [&[u8]; 4] = [
         b"",
         b"\x1B G",
@@ -886,7 +892,7 @@ pub fn rooms() -> Script {
     let mut s = Script::new();
     for rows in SIZES {
         for before in befores {
-            for query in queries {
+            for query in QUERIES {
                 for room in 0..=13 {
                     s.start_right(rows);
                     s.feed(before, 0);

@@ -211,6 +211,11 @@ impl Machine {
         &self.state
     }
 
+    /// The words that are lent.
+    pub fn page(&self) -> &[u16] {
+        &self.buffer[..self.lent]
+    }
+
     /// Carries out one command; what it writes is added to the output.
     pub fn carry_out(&mut self, command: Command, output: &mut Vec<u8>) {
         let Command { letter, a, b, .. } = command;
@@ -246,14 +251,13 @@ impl Machine {
                 output.push(count as u8);
             }
             b'R' => {
-                let page = &self.buffer[..self.lent];
-                let (answer, word) = read_cell(&self.state, page, a as usize, b as usize);
+                let (answer, word) = read_cell(&self.state, self.page(), a as usize, b as usize);
                 output.extend_from_slice(&[b'R', answer]);
                 output.extend_from_slice(&word.to_le_bytes());
             }
             b'P' => {
                 output.push(b'P');
-                for word in &self.buffer[..self.lent] {
+                for word in self.page() {
                     output.extend_from_slice(&word.to_le_bytes());
                 }
             }

@@ -1,7 +1,7 @@
 //! Long streams: what must hold whatever the bytes are.
 
 mod common;
-use common::Console;
+use common::{any_words, Console};
 use reference::grammar::{stream, Random};
 use reference::*;
 
@@ -28,14 +28,9 @@ fn cutting_makes_no_difference() {
         while !rest.is_empty() {
             let length = random.between(1, 200).min(rest.len());
             let room = random.between(11, 20);
-            let mut reply = vec![0xEE; room];
-            let (answer, read, replied, state) =
-                feed(&pieces.state, &mut pieces.page, &rest[..length], &mut reply);
+            let (answer, read, _) = pieces.feed_with(&rest[..length], room, 0xEE);
             assert!(answer == 0 && read == length || answer == 3 && read < length);
             assert!(read > 0);
-            assert!(reply[replied..].iter().all(|&byte| byte == 0xEE));
-            pieces.replies.extend_from_slice(&reply[..replied]);
-            pieces.state = state;
             rest = &rest[read..];
         }
         assert_eq!(pieces.page, whole.page);
@@ -71,9 +66,7 @@ fn any_word_is_accepted() {
     for seed in 200..230 {
         let mut random = Random::new(seed);
         let mut c = Console::new();
-        for word in &mut c.page {
-            *word = random.next() as u16;
-        }
+        c.page = any_words(&mut random, 80 * 24);
         for piece in stream(seed, 4_000).chunks(50) {
             c.more(piece);
         }

@@ -918,6 +918,133 @@ static void test_streams(void)
     }
 }
 
+/* ---- nothing of the page reaches the modem */
+
+/* The terminal of the same modem over another page. */
+static struct {
+    pankholim_terminal terminal;
+    uint16_t page[PANKHOLIM_CELLS(48)];
+    uint8_t reply[MAX_BYTES];
+} second;
+
+/* May one of the two be asked for its changed rows? */
+static int one_is_asked;
+
+/* Feedings of both: all; that sent something; that stopped for want of room; that left other changed rows, where
+ * none was asked for these. */
+static struct {
+    unsigned long all, replied, stopped, changed_otherwise;
+} pairs;
+
+/* Two fresh terminals, over blank cells and any words. */
+static void start_pair(size_t rows)
+{
+    size_t i;
+
+    start_well(rows);
+    second.terminal = record.terminal;
+    one_is_asked = (int)below(2);
+    for (i = 0; i < PANKHOLIM_CELLS(rows); i++)
+        second.page[i] = (uint16_t)below(65536);
+}
+
+/* Other words come into the second page, also where both were erased. */
+static void change_second(size_t cells)
+{
+    unsigned n;
+
+    for (n = 0; n < 20; n++)
+        second.page[below((unsigned)cells)] = (uint16_t)below(65536);
+    CHECK(memcmp(page, second.page, cells * sizeof(uint16_t)) != 0);
+}
+
+/* All of a record is to be the same but its first 8 bytes, the changed rows; and all of it once these are asked for. */
+static void compare_records(pankholim_terminal one, pankholim_terminal other)
+{
+    uint64_t rows, other_rows;
+    uint32_t count;
+
+    CHECK(memcmp(one.opaque + 1, other.opaque + 1, RECORD - 8) == 0);
+    CHECK(pankholim_ask(&one, &rows, &count) == PANKHOLIM_DONE);
+    CHECK(pankholim_ask(&other, &other_rows, &count) == PANKHOLIM_DONE);
+    CHECK(memcmp(&one, &other, sizeof one) == 0);
+    pairs.changed_otherwise += !one_is_asked && rows != other_rows;
+}
+
+/* What is asked and read of one of the two, or refused to it, is not seen by the modem. */
+static void disturb_one(size_t cells)
+{
+    static const uint8_t query[] = "\033[6n";
+    pankholim_terminal broken;
+    uint64_t rows;
+    uint32_t count;
+    uint16_t word;
+    size_t n, m;
+
+    memset(&broken, 0, sizeof broken);
+    switch (below(4)) {
+    case 0:
+        CHECK(!one_is_asked || ask(&rows, &count) == PANKHOLIM_DONE);
+        break;
+    case 1:
+        CHECK(read_word(cells, 1 + below(24), 1 + below(80), &word) == PANKHOLIM_DONE);
+        break;
+    case 2:
+        CHECK(pankholim_feed(&record.terminal, page, cells - 1, query, 4, reply, 64, &n, &m) == PANKHOLIM_WRONG_SIZE);
+        break;
+    default:
+        CHECK(pankholim_feed(&broken, page, cells, query, 4, reply, 64, &n, &m) == PANKHOLIM_BROKEN);
+    }
+}
+
+/* Feeds both with as much room, and returns how much was read. */
+static size_t feed_pair(size_t cells, const uint8_t *input, size_t length, size_t room)
+{
+    size_t second_read, second_replied, i;
+    uint8_t answer;
+
+    disturb_one(cells);
+    change_second(cells);
+    pairs.all++;
+    memset(second.reply, 0x11, room);
+    answer = feed_bytes(cells, input, length, room);
+    CHECK(pankholim_feed(&second.terminal, second.page, cells, input, length, second.reply, room, &second_read,
+                         &second_replied) == answer);
+    CHECK(read_count == second_read && replied == second_replied && memcmp(reply, second.reply, replied) == 0);
+    for (i = replied; i < room; i++)
+        CHECK(second.reply[i] == 0x11);
+    compare_records(record.terminal, second.terminal);
+    pairs.replied += replied > 0;
+    pairs.stopped += answer == PANKHOLIM_NO_ROOM;
+    return read_count;
+}
+
+static void feed_pair_in_pieces(size_t rows, const uint8_t *input, size_t length)
+{
+    size_t at = 0;
+
+    start_pair(rows);
+    while (at < length) {
+        size_t piece = 1 + below(40), left = length - at, room = below(2 * PANKHOLIM_REPLY_ROOM);
+
+        at += feed_pair(PANKHOLIM_CELLS(rows), input + at, piece < left ? piece : left, room);
+    }
+}
+
+static void test_no_leak(void)
+{
+    static uint8_t stream[600];
+    unsigned round;
+    size_t i;
+
+    for (round = 0; round < 300; round++) {
+        for (i = 0; i < sizeof stream; i++)
+            stream[i] = random_byte();
+        feed_pair_in_pieces(sizes[round % 3], stream, sizeof stream);
+    }
+    CHECK(pairs.replied > 100 && pairs.stopped > 100 && pairs.changed_otherwise > pairs.all / 10);
+}
+
 /* ---- the captures */
 
 static size_t load(const char *name, const char *ending, uint8_t *into)
@@ -962,6 +1089,7 @@ static void test_capture(const char *name)
     check_capture(input, length, expected, size, length);
     check_capture(input, length, expected, size, 1);
     check_capture(input, length, expected, size, 7);
+    feed_pair_in_pieces(24, input, length);
 }
 
 int main(int argc, char **argv)
@@ -998,6 +1126,7 @@ int main(int argc, char **argv)
     test_copies();
     test_bytes_of_a_record();
     test_streams();
+    test_no_leak();
     for (i = 1; i < argc; i++)
         test_capture(argv[i]);
     printf("%lu checks passed, %d captures among them\n", checks, argc - 1);

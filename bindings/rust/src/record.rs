@@ -110,7 +110,9 @@ impl Record {
     }
 
     /// Feeds bytes from the modem. Sequences may be cut anywhere between two calls. Refused with `Broken` or
-    /// `WrongSize`; then record, page and reply are left.
+    /// `WrongSize`; then record, page and reply are left. Nothing of the page reaches the modem: what is
+    /// returned, the bytes replied, and the record but for its changed rows are the same over any page of the right
+    /// length.
     pub fn feed(
         &mut self,
         page: &mut [u16],

@@ -1,23 +1,8 @@
 //! Each capture gives its text, however it is cut.
 
+mod common;
+use common::captures;
 use pankholim::{PageSize, Terminal, REPLY_ROOM};
-use std::fs;
-use std::path::PathBuf;
-
-fn captures() -> Vec<(String, Vec<u8>, String)> {
-    let folder = PathBuf::from(env!("CARGO_MANIFEST_DIR")).join("../../captures");
-    let mut captures = Vec::new();
-    for entry in fs::read_dir(folder).unwrap() {
-        let path = entry.unwrap().path();
-        if path.extension().is_some_and(|ending| ending == "bytes") {
-            let name = path.file_stem().unwrap().to_string_lossy().into_owned();
-            let text = fs::read_to_string(path.with_extension("txt")).unwrap();
-            captures.push((name, fs::read(path).unwrap(), text));
-        }
-    }
-    assert!(captures.len() >= 14);
-    captures
-}
 
 #[test]
 fn at_once() {

@@ -1,27 +1,8 @@
 //! Feeding in pieces, cut anywhere and with any room, changes nothing.
 
+mod common;
+use common::Random;
 use pankholim::{PageSize, RowSet, Terminal};
-
-struct Random(u64);
-
-impl Random {
-    fn below(&mut self, bound: usize) -> usize {
-        self.0 ^= self.0 << 13;
-        self.0 ^= self.0 >> 7;
-        self.0 ^= self.0 << 17;
-        (self.0 >> 33) as usize % bound
-    }
-
-    /// A byte that is often part of a sequence.
-    fn byte(&mut self) -> u8 {
-        let parts = b"\x1b\x1b[[[;;0123456789?!\"#()HJKLMPXm@rhlgnc\n\r\x08\tAB";
-        if self.below(3) == 0 {
-            self.below(256) as u8
-        } else {
-            parts[self.below(parts.len())]
-        }
-    }
-}
 
 /// A terminal with all that it replied and reported.
 struct Seen {
@@ -71,7 +52,7 @@ fn one_cut_anywhere() {
 
 #[test]
 fn many_cuts_with_any_room() {
-    let mut random = Random(0x9E37_79B9_7F4A_7C15);
+    let mut random = Random::new();
     for round in 0..150 {
         let size = PageSize::ALL[round % 3];
         let input: Vec<u8> = (0..600).map(|_| random.byte()).collect();

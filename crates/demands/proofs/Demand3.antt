@@ -281,7 +281,7 @@ left-page w (part a n) q e =
     rw (e, ← (drop-drop n a (w .page)), take-append-drop n (drop a (w .page))) (take-append-drop a (w .page))
 left-page w (other p) q e = refl
 
-refused-left : (w : World) (call : Call) (s : State) (l : Lent) → refusal (W.answerTo w s l call) ≡ true → W.worldAfter w s l call ≡ w
+pub refused-left : (w : World) (call : Call) (s : State) (l : Lent) → refusal (W.answerTo w s l call) ≡ true → W.worldAfter w s l call ≡ w
 refused-left w (feeding i o) s l h =
     rw (h, left-page w l (fed s (W.wordsOf w l) i o .page) (fed-left s (W.wordsOf w l) i o h .page))
 refused-left w asking s l h = rw h

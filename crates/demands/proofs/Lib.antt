@@ -4,3 +4,6 @@ pub mod Demand1
 pub mod Demand2
 pub mod Demand3
 pub mod Signs
+pub mod Leak
+pub mod LeakingPrograms
+pub mod LeakForC

@@ -4,3 +4,6 @@ pub mod Model
 pub mod World
 pub mod Statements
 pub mod Signs
+pub mod Leak
+pub mod LeakingPrograms
+pub mod LeakForC

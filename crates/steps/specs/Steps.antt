@@ -13,6 +13,10 @@ use Rattle.dispatch.specs.Decide.{decided, sends}
 use Rattle.steps.specs.declared.State.{State}
 use Rattle.steps.specs.declared.Tracked.{Tracked}
 
+-- no changed row
+abbrev pub nothingTracked : Tracked
+nothingTracked = record { changed = 0 }
+
 -- what bytes act on: the core and the page; and what is tracked, on which neither depends
 pub record Screen : Type 0 where
   pub core : Core

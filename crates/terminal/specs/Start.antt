@@ -11,10 +11,11 @@ use Rattle.terminal.specs.declared.Started.{Started}
 use Rattle.terminal.specs.declared.Answer.{Answer}
 use Rattle.terminal.specs.declared.Answer.the-variants.{Done, Broken, WrongSize, NoRoom, OffPage}
 use Rattle.terminal.specs.Answers.{number}
+use Rattle.steps.specs.Steps.{nothingTracked}
 use Rattle.steps.specs.Whole.{rightSize}
 
 abbrev pub fresh : ℕ → State
-fresh r = record { core = freshCore r; tracked = record { changed = 0 } }
+fresh r = record { core = freshCore r; tracked = nothingTracked }
 
 abbrev pub blankPage : ℕ → List ℕ
 blankPage r = replicate (80 * r) blank

@@ -1,9 +1,11 @@
 //! A page, its state and all replies, for the tests.
 #![allow(dead_code)]
 
+use reference::grammar::Random;
 use reference::parser::{Event, Parameter};
 use reference::*;
 
+#[derive(Clone)]
 pub struct Console {
     pub page: Vec<u16>,
     pub state: State,
@@ -44,6 +46,18 @@ impl Console {
         assert!(is_whole(&state));
         self.replies.extend_from_slice(&reply[..replied]);
         self.state = state;
+    }
+
+    /// Feeds what the room allows; each reply byte is `held` before. The answer,
+    /// how many bytes were read, and what was sent.
+    pub fn feed_with(&mut self, bytes: &[u8], room: usize, held: u8) -> (u8, usize, Vec<u8>) {
+        let mut reply = vec![held; room];
+        let (answer, read, replied, state) = feed(&self.state, &mut self.page, bytes, &mut reply);
+        assert!(reply[replied..].iter().all(|&byte| byte == held));
+        reply.truncate(replied);
+        self.replies.extend_from_slice(&reply);
+        self.state = state;
+        (answer, read, reply)
     }
 
     /// The changed rows, which are then forgotten.
@@ -90,6 +104,11 @@ impl Console {
                     .all(|&w| w == 0x20)
             })
     }
+}
+
+/// Random words: every code, set and flag, and the unused bits too.
+pub fn any_words(random: &mut Random, count: usize) -> Vec<u16> {
+    (0..count).map(|_| random.next() as u16).collect()
 }
 
 /// The parameters of the control sequence that the last byte ends.
