@@ -136,6 +136,7 @@ enum { SCROLLS = ROWS, TIMINGS = 2000, LF = 0x0A, RI = 0x8D };
 
 static uint16_t page[PANKHOLIM_CELLS(ROWS)];
 static uint16_t drawn[PANKHOLIM_CELLS(ROWS)];
+static uint16_t line[PANKHOLIM_LINE_CELLS];
 static pankholim_terminal terminal;
 
 static void feed_terminal(const uint8_t *bytes, size_t length)
@@ -143,7 +144,8 @@ static void feed_terminal(const uint8_t *bytes, size_t length)
     uint8_t reply[1];
     size_t read, replied;
 
-    pankholim_feed(&terminal, page, PANKHOLIM_CELLS(ROWS), bytes, length, reply, 0, &read, &replied);
+    pankholim_feed(&terminal, page, PANKHOLIM_CELLS(ROWS), line, PANKHOLIM_LINE_CELLS, bytes, length, reply, 0, &read,
+                   &replied);
 }
 
 static void scroll_ours(int byte)
@@ -217,7 +219,7 @@ static void measure_scrolls(void)
     printf("One scroll of all %d rows, nanoseconds (median of %u rounds of %d times %d)\n\n", ROWS, options.rounds,
            TIMINGS, SCROLLS);
     printf("%-22s %9s %9s %9s\n", "page", "ours", "memmove", "ratio");
-    pankholim_start(&terminal, ROWS, page, PANKHOLIM_CELLS(ROWS));
+    pankholim_start(&terminal, ROWS, page, PANKHOLIM_CELLS(ROWS), line, PANKHOLIM_LINE_CELLS);
     feed_terminal(bottom, sizeof bottom - 1);
     memcpy(drawn, page, sizeof drawn);
     measure_scroll("blank, up", LF);
@@ -343,9 +345,9 @@ static void measure_memory(uint8_t *bytes)
         most = theirs.fed > most ? theirs.fed : most;
     }
     printf("Bytes for one terminal of %d by %d\n\n", ROWS, COLUMNS);
-    printf("ours      %6lu: a record of %lu and a page of %lu, whatever is fed\n",
-           (unsigned long)(sizeof(pankholim_terminal) + sizeof page), (unsigned long)sizeof(pankholim_terminal),
-           (unsigned long)sizeof page);
+    printf("ours      %6lu: a record of %lu, a page of %lu and a status line of %lu, whatever is fed\n",
+           (unsigned long)(sizeof terminal + sizeof page + sizeof line), (unsigned long)sizeof terminal,
+           (unsigned long)sizeof page, (unsigned long)sizeof line);
     printf("libvterm  %6lu: as started, in %lu pieces; at most %lu after a stream\n", (unsigned long)theirs.started,
            (unsigned long)theirs.pieces, (unsigned long)most);
 }

@@ -5,7 +5,7 @@
 #include <string.h>
 
 static pankholim_terminal terminal;
-static uint16_t page[PANKHOLIM_CELLS(ROWS)];
+static uint16_t page[PANKHOLIM_CELLS(ROWS)], line[PANKHOLIM_LINE_CELLS];
 
 /* A chunk, and what changed in it. */
 static void feed_chunk(const uint8_t *bytes, size_t length, struct outcome *outcome)
@@ -14,16 +14,16 @@ static void feed_chunk(const uint8_t *bytes, size_t length, struct outcome *outc
     size_t read, replied;
     uint64_t rows;
     uint32_t count;
-    uint8_t answer;
+    uint8_t answer, line_changed;
 
     do {
-        answer = pankholim_feed(&terminal, page, PANKHOLIM_CELLS(ROWS), bytes, length, reply, sizeof reply, &read,
-                                &replied);
+        answer = pankholim_feed(&terminal, page, PANKHOLIM_CELLS(ROWS), line, PANKHOLIM_LINE_CELLS, bytes, length, reply,
+                                sizeof reply, &read, &replied);
         outcome->replied += replied;
         bytes += read;
         length -= read;
     } while (answer == PANKHOLIM_NO_ROOM);
-    if (answer != PANKHOLIM_DONE || pankholim_ask(&terminal, &rows, &count) != PANKHOLIM_DONE)
+    if (answer != PANKHOLIM_DONE || pankholim_ask(&terminal, &rows, &count, &line_changed) != PANKHOLIM_DONE)
         abort();
     fold_rows(outcome, rows);
 }
@@ -34,7 +34,7 @@ static double feed(const uint8_t *bytes, size_t length, struct outcome *outcome)
     size_t at, i;
 
     memset(outcome, 0, sizeof *outcome);
-    pankholim_start(&terminal, ROWS, page, PANKHOLIM_CELLS(ROWS));
+    pankholim_start(&terminal, ROWS, page, PANKHOLIM_CELLS(ROWS), line, PANKHOLIM_LINE_CELLS);
     from = processor_time();
     for (at = 0; at < length; at += CHUNK)
         feed_chunk(bytes + at, length - at < CHUNK ? length - at : CHUNK, outcome);

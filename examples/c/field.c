@@ -4,7 +4,7 @@
  *     field CAPTURE ROW COLUMN LENGTH
  *
  * feeds the capture to a terminal of 24 rows, in pieces and with little room for replies, and prints the
- * replies, the rows that changed, the cursor, the field and the page.
+ * replies, the rows that changed, the status line if it changed, the cursor, the field and the page.
  */
 #include <stdio.h>
 #include <stdlib.h>
@@ -14,7 +14,7 @@
 enum { ROWS = 24, CELLS = PANKHOLIM_CELLS(ROWS), PIECE = 256 };
 
 static pankholim_terminal terminal;
-static uint16_t page[CELLS];
+static uint16_t page[CELLS], line[PANKHOLIM_LINE_CELLS];
 
 /* A reply as it would go to the modem. Replies have no control but ESC and, with 8-bit replies, CSI. */
 static void send_reply(const uint8_t *reply, size_t length)
@@ -43,7 +43,8 @@ static int feed(const uint8_t *input, size_t length)
     uint8_t answer;
 
     do {
-        answer = pankholim_feed(&terminal, page, CELLS, input, length, reply, sizeof reply, &read, &replied);
+        answer = pankholim_feed(&terminal, page, CELLS, line, PANKHOLIM_LINE_CELLS, input, length, reply, sizeof reply,
+                                &read, &replied);
         send_reply(reply, replied);
         input += read;
         length -= read;
@@ -64,18 +65,31 @@ static int feed_file(FILE *file)
     return !ferror(file);
 }
 
+/* The line is a row of its own; its text ends in a line feed. */
+static void print_line(void)
+{
+    uint8_t text[PANKHOLIM_TEXT_ROOM(1)];
+    size_t bytes;
+
+    pankholim_write_text(line, PANKHOLIM_LINE_CELLS, text, sizeof text, &bytes);
+    printf("status line: %.*s", (int)bytes, (const char *)text);
+}
+
 static void print_changed(const char *when)
 {
     uint64_t rows;
     uint32_t count;
+    uint8_t line_changed;
     size_t row;
 
-    pankholim_ask(&terminal, &rows, &count);
+    pankholim_ask(&terminal, &rows, &count, &line_changed);
     printf("rows changed %s:", when);
     for (row = 1; row <= ROWS; row++)
         if (pankholim_row_changed(rows, row))
             printf(" %u", (unsigned)row);
     printf(" (%u in all)\n", (unsigned)count);
+    if (line_changed)
+        print_line();
 }
 
 static void print_cursor(void)
@@ -129,7 +143,7 @@ int main(int argc, char **argv)
         perror(argv[1]);
         return 1;
     }
-    if (pankholim_start(&terminal, ROWS, page, CELLS) != PANKHOLIM_DONE) {
+    if (pankholim_start(&terminal, ROWS, page, CELLS, line, PANKHOLIM_LINE_CELLS) != PANKHOLIM_DONE) {
         fclose(file);
         return 1;
     }

@@ -17,7 +17,7 @@ macro_rules! files {
 
 /// Every file in the directory of examples: its name without the ending, and
 /// its text.
-pub const FILES: [(&str, &str); 26] = files![
+pub const FILES: [(&str, &str); 27] = files![
     "calls",
     "changed-rows",
     "colons",
@@ -40,6 +40,7 @@ pub const FILES: [(&str, &str); 26] = files![
     "sequences",
     "sets",
     "starting",
+    "status-line",
     "strings",
     "substitute",
     "tabs",
@@ -54,7 +55,7 @@ struct Check {
 }
 
 /// A line of a file, as checks. The first line of an example begins with a
-/// start.
+/// start, lent a status line of 80 words.
 pub struct Line<'a> {
     pub number: usize,
     pub text: &'a str,
@@ -128,7 +129,8 @@ pub fn lines(text: &str) -> Result<Vec<Line<'_>>, String> {
         } else {
             let mut checks = checks_of(text).map_err(|fault| format!("{number}: {fault}"))?;
             if !begun {
-                checks.insert(0, start(ROWS_AT_FIRST, ROWS_AT_FIRST * 80, 0));
+                let fresh = start(ROWS_AT_FIRST, ROWS_AT_FIRST * 80, 0);
+                checks.splice(0..0, [lend_line(80), fresh]);
             }
             begun = true;
             list.push(Line {
@@ -159,16 +161,17 @@ fn checks_of(text: &str) -> Result<Vec<Check>, String> {
             };
             vec![feed(&bytes, room, answer, read, &reply)?]
         }
-        "rows" => vec![ask(&tokens.numbers("row", 64)?)],
+        "rows" => {
+            let rows = tokens.numbers("row", 64)?;
+            let line_changed = tokens.is_next("line");
+            let answer = tokens.number_after("answer")?.unwrap_or(0);
+            vec![ask(&rows, line_changed, answer)]
+        }
         "text" => {
             let (row, column) = (tokens.number()?, tokens.number()?);
-            let codes = tokens.bytes()?;
-            if !codes.is_ascii() {
-                return Err("a code above 7F".to_string());
-            }
-            let cells = codes.iter().zip(column..);
+            let cells = tokens.codes()?.into_iter().zip(column..);
             cells
-                .map(|(&code, column)| read(row, column, 0, code as u16))
+                .map(|(code, column)| read(row, column, 0, code))
                 .collect()
         }
         "words" => {
@@ -194,7 +197,7 @@ fn checks_of(text: &str) -> Result<Vec<Check>, String> {
             for column in columns {
                 flags[(column as usize - 1) / 8] |= 1 << ((column - 1) % 8);
             }
-            let places: Vec<usize> = (VIEW_TABS..VIEW_BYTES).collect();
+            let places: Vec<usize> = (VIEW_TABS..VIEW_TABS + flags.len()).collect();
             vec![view(&places, &flags)]
         }
         "shown" => vec![view(&[VIEW_SHOWN], &[1])],
@@ -219,6 +222,39 @@ fn checks_of(text: &str) -> Result<Vec<Check>, String> {
             let answer = tokens.number_after("answer")?.unwrap_or(0);
             vec![read(row, column, answer, BLANK_WORD)]
         }
+        "line" => {
+            let column = tokens.column()?;
+            vec![line(column, &tokens.codes()?)?]
+        }
+        "linewords" => {
+            let column = tokens.column()?;
+            vec![line(column, &tokens.words()?)?]
+        }
+        "linecursor" => {
+            let fields = [tokens.number()? as u8, tokens.is_next("wrap") as u8];
+            vec![view(&[VIEW_LINE_COLUMN, VIEW_LINE_WRAP_DUE], &fields)]
+        }
+        "type" => vec![view(&[VIEW_LINE], &[tokens.choice("none", "line")?])],
+        "active" => vec![view(&[VIEW_LINE_ACTIVE], &[tokens.choice("page", "line")?])],
+        "row" => {
+            let number = tokens.number()?;
+            match tokens.number_after("answer")? {
+                Some(answer) => vec![no_row(number, answer)],
+                None => vec![row(number, &tokens.codes()?)?],
+            }
+        }
+        "putline" => {
+            let column = tokens.column()?;
+            let cells = tokens.words()?.into_iter().zip(column..);
+            cells.map(|(word, column)| put_line(column, word)).collect()
+        }
+        "linelent" => vec![lend_line(tokens.number()?)],
+        "set" => {
+            let name = tokens.word()?;
+            let field = FIELDS.iter().find(|(known, _)| *known == name);
+            let (_, field) = field.ok_or(format!("no such field: {name}"))?;
+            vec![set(*field, tokens.number()?)]
+        }
         other => return Err(format!("no such command: {other}")),
     };
     match tokens.rest.is_empty() {
@@ -226,6 +262,16 @@ fn checks_of(text: &str) -> Result<Vec<Check>, String> {
         false => Err("more than the command takes".to_string()),
     }
 }
+
+/// The fields that `set` names.
+const FIELDS: [(&str, u16); 6] = [
+    ("autowrap", AUTOWRAP),
+    ("type", LINE_EXISTS),
+    ("active", LINE_ACTIVE),
+    ("linecolumn", LINE_COLUMN),
+    ("linewrap", LINE_WRAP_DUE),
+    ("linesavedcolumn", LINE_SAVED_COLUMN),
+];
 
 fn check(build: impl FnOnce(&mut Script), expected: &[u8]) -> Check {
     let mut script = Script::new();
@@ -266,13 +312,61 @@ fn feed(bytes: &[u8], room: u16, answer: u16, read: u16, reply: &[u8]) -> Result
     Ok(check(|s| s.feed(bytes, room), &expected))
 }
 
-fn ask(rows: &[u16]) -> Check {
+fn ask(rows: &[u16], line_changed: bool, answer: u16) -> Check {
     let mut set = 0u64;
     for row in rows {
         set |= 1 << (row - 1);
     }
-    let expected = [&b"A\0"[..], &set.to_le_bytes(), &[rows.len() as u8]].concat();
-    check(|s| s.ask(), &expected)
+    let head = [b'A', answer as u8];
+    let end = [rows.len() as u8, line_changed as u8];
+    check(|s| s.ask(), &[&head[..], &set.to_le_bytes(), &end].concat())
+}
+
+fn lend_line(words: u16) -> Check {
+    check(|s| s.lend_line(words), &[])
+}
+
+fn put_line(column: u16, word: u16) -> Check {
+    check(|s| s.line_word(column, word), &[])
+}
+
+fn set(field: u16, value: u16) -> Check {
+    check(|s| s.field(field, value), &[])
+}
+
+/// These words from a column of the line on, and any elsewhere.
+fn line(column: u16, words: &[u16]) -> Result<Check, String> {
+    let mut check = check(|s| s.line(), b"D");
+    add_words(&mut check.expected, column, words)?;
+    Ok(check)
+}
+
+/// A row that is handed back and begins with these words.
+fn row(number: u16, words: &[u16]) -> Result<Check, String> {
+    let mut check = check(|s| s.row(number), b"O\0\x50");
+    add_words(&mut check.expected, 1, words)?;
+    Ok(check)
+}
+
+fn no_row(number: u16, answer: u16) -> Check {
+    check(|s| s.row(number), &[b'O', answer as u8, 0])
+}
+
+/// 80 words, of which these are known.
+fn add_words(expected: &mut Vec<Option<u8>>, column: u16, words: &[u16]) -> Result<(), String> {
+    let first = column as usize - 1;
+    if first + words.len() > 80 {
+        return Err("more than 80 columns".to_string());
+    }
+    let mut cells = [None; 80];
+    for (cell, word) in cells[first..].iter_mut().zip(words) {
+        *cell = Some(word);
+    }
+    for cell in cells {
+        let bytes = cell.map(|word| word.to_le_bytes());
+        expected.extend([bytes.map(|pair| pair[0]), bytes.map(|pair| pair[1])]);
+    }
+    Ok(())
 }
 
 fn view(places: &[usize], fields: &[u8]) -> Check {
@@ -317,6 +411,33 @@ impl Tokens {
         word.parse().map_err(|_| format!("no number: {word}"))
     }
 
+    /// From 1.
+    fn column(&mut self) -> Result<u16, String> {
+        match self.number()? {
+            0 => Err("rows and columns count from 1".to_string()),
+            column => Ok(column),
+        }
+    }
+
+    /// The codes in a string, as words with no flag.
+    fn codes(&mut self) -> Result<Vec<u16>, String> {
+        let codes = self.bytes()?;
+        match codes.is_ascii() {
+            true => Ok(codes.into_iter().map(u16::from).collect()),
+            false => Err("a code above 7F".to_string()),
+        }
+    }
+
+    /// One of two words: 0 or 1.
+    fn choice(&mut self, first: &str, second: &str) -> Result<u8, String> {
+        let word = self.word()?;
+        match word {
+            _ if word == first => Ok(0),
+            _ if word == second => Ok(1),
+            _ => Err(format!("neither {first} nor {second}: {word}")),
+        }
+    }
+
     /// Is this word next? Then it is taken.
     fn is_next(&mut self, name: &str) -> bool {
         let found = matches!(self.rest.first(), Some(Token::Word(word)) if word == name);
@@ -344,13 +465,15 @@ impl Tokens {
         Ok(list)
     }
 
-    /// `none`, or numbers and ranges of them, rising, to the end of the line.
+    /// `none`, or numbers and ranges of them, rising, to the end of the line or
+    /// the words that may follow them.
     fn numbers(&mut self, name: &str, most: u16) -> Result<Vec<u16>, String> {
         let mut list = Vec::new();
         if self.is_next("none") {
             return Ok(list);
         }
-        while !self.rest.is_empty() {
+        let ends = |token: &Token| matches!(token, Token::Word(word) if word == "line" || word == "answer");
+        while self.rest.first().is_some_and(|token| !ends(token)) {
             let word = self.word()?;
             let (first, last) = word.split_once('-').unwrap_or((&word, &word));
             let number = |word: &str| {
@@ -434,6 +557,11 @@ mod tests {
             feed \"n\" room 7 reply \"\\e[5;80R\"\n\
             lent 80\nread 1 1 answer 2\nstart 36\nread 37 1 answer 4\n\
             start 25 answer 1\nstart 24 lent 9 answer 2\n\n\
+            # The line.\nfeed \"\\e[2$~\"\ntype line\nactive page\nrow 24 \"  \"\nrow 25 answer 4\n\
+            feed \"\\e[?7h\\e[1$}\\e[79Gab\\rok\\e[80Cx\"\nactive line\nlinecursor 80 wrap\n\
+            line 1 \"ok\"\nline 80 \"x\"\nrow 1 \"ok\"\nrow 2 answer 4\nrows none line\nrows none\n\
+            putline 2 C041\nlinewords 1 006F C041 0020\nlinelent 79\nrow 1 answer 2\nlinelent 80\n\
+            set linecolumn 81\nrows none answer 1\nrow 1 answer 1\nlinelent 79\n\n\
             # Fresh again.\n\n# And more.\ncursor 1 1\n";
         assert_eq!(fault(text), "");
     }
@@ -446,6 +574,17 @@ mod tests {
             "margins 1 23",
             "hidden",
             "rows 1",
+            "rows none line",
+            "rows none answer 1",
+            "line 80 \"x\"",
+            "linewords 1 0041",
+            "linecursor 2",
+            "linecursor 1 wrap",
+            "type line",
+            "active line",
+            "row 1 \"a\"",
+            "row 1 answer 4",
+            "row 25 \"\"",
             "tabs none",
             "tabs 9 17 25 33 41 49 57 65",
             "text 1 1 \"a\"",
@@ -476,6 +615,17 @@ mod tests {
             "rows 3 2",
             "rows 65",
             "rows",
+            "rows line",
+            "line 0 \"a\"",
+            "line 80 \"ab\"",
+            "line 1 a",
+            "linewords 81 0020",
+            "type 1",
+            "active both",
+            "row",
+            "row 1",
+            "putline 0 0020",
+            "set column 1",
             "tabs 81",
             "feed x",
             "feed \"x",

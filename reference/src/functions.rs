@@ -11,6 +11,8 @@ use crate::state::{Cursor, Extent, Saved, Sets, Shift, Slot, State};
 pub struct Scene {
     pub state: State,
     pub page: Page,
+    /// The status line, as a page of one row.
+    pub line: Page,
 }
 
 /// What becomes of wrap due once a function is done.
@@ -23,8 +25,8 @@ enum Due {
 }
 
 /// One step: a whole new scene, in which every row is noted that has another
-/// cell than before.
-fn step(before: &Scene, change: impl FnOnce(&mut Scene)) -> Scene {
+/// cell than before, and so is the line.
+fn step_of_both(before: &Scene, change: impl FnOnce(&mut Scene)) -> Scene {
     let mut after = before.clone();
     change(&mut after);
     for row in 1..=before.state.rows {
@@ -32,14 +34,35 @@ fn step(before: &Scene, change: impl FnOnce(&mut Scene)) -> Scene {
             after.state.changed.insert(row);
         }
     }
+    if after.line.row_differs(&before.line, 1) {
+        after.state.line.changed = true;
+    }
     after
+}
+
+/// One step on what is active. With the line active, the page that is changed is
+/// the line.
+fn step(before: &Scene, change: impl FnOnce(&mut Scene)) -> Scene {
+    if !before.state.line.active {
+        return step_of_both(before, change);
+    }
+    step_of_both(before, |scene| {
+        let mut one_row = Scene {
+            state: scene.state.of_active(),
+            page: scene.line.clone(),
+            line: scene.line.clone(),
+        };
+        change(&mut one_row);
+        scene.state = scene.state.after_line(one_row.state);
+        scene.line = one_row.page;
+    })
 }
 
 /// One byte: the scene after its step or steps, and its reply.
 pub fn take(before: &Scene, byte: u8) -> (Scene, Vec<u8>) {
     let (parser, event) = before.state.parser.read(byte);
     let event = without_subparameters(event);
-    let reply = reply_to(&before.state, &event);
+    let reply = reply_to(&before.state.of_active(), &event);
     let after = match event {
         Event::Print(byte) => match sign(&before.state, byte) {
             // Ignored. (A byte is only printed with nothing in progress.)
@@ -58,8 +81,13 @@ pub fn take(before: &Scene, byte: u8) -> (Scene, Vec<u8>) {
             after.state.parser = parser;
             after
         }
+        other if is_of_both(&other) => step_of_both(before, |scene| {
+            scene.state.parser = parser;
+            scene.change_both(&other);
+        }),
         other => step(before, |scene| {
             scene.state.parser = parser;
+            let was_due = scene.state.cursor.wrap_due;
             let due = match other {
                 Event::Control(byte) => scene.control(byte),
                 Event::HighControl(byte) => scene.high_control(byte),
@@ -77,7 +105,7 @@ pub fn take(before: &Scene, byte: u8) -> (Scene, Vec<u8>) {
                 _ => Due::Kept,
             };
             match due {
-                Due::Kept => scene.state.cursor.wrap_due = before.state.cursor.wrap_due,
+                Due::Kept => scene.state.cursor.wrap_due = was_due,
                 Due::Cleared => scene.state.cursor.wrap_due = false,
                 Due::AsLeft => {}
             }
@@ -111,6 +139,27 @@ fn without_subparameters(event: Event) -> Event {
         subparameters: false,
         intermediates,
         last,
+    }
+}
+
+/// Is this about page and line together, whichever of them is active? ESC c,
+/// CSI ! p, CSI $ ~ and CSI $ }.
+fn is_of_both(event: &Event) -> bool {
+    match event {
+        Event::Escape {
+            intermediates,
+            last,
+        } => intermediates.is_empty() && *last == b'c',
+        Event::ControlSequence {
+            mark: None,
+            intermediates,
+            last,
+            ..
+        } => matches!(
+            (&intermediates[..], last),
+            (b"!", b'p') | (b"$", b'~' | b'}')
+        ),
+        _ => false,
     }
 }
 
@@ -151,7 +200,7 @@ fn sign_in(set: Set, byte: u8) -> Option<(u8, Set)> {
 
 /// The printing rule: one step, or two with wrap due.
 fn print(before: &Scene, cell: Cell) -> Scene {
-    if before.state.cursor.wrap_due {
+    if before.state.of_active().cursor.wrap_due {
         let moved = step(before, |scene| {
             scene.state.cursor.column = 1;
             scene.index();
@@ -187,6 +236,77 @@ fn reply_to(state: &State, event: &Event) -> Vec<u8> {
 }
 
 impl Scene {
+    // ---- Page and line together ---------------------------------------------
+
+    /// Each says itself what becomes of wrap due.
+    fn change_both(&mut self, event: &Event) {
+        match event {
+            Event::ControlSequence {
+                parameters, last, ..
+            } => match (last, parameters[0].value) {
+                (b'p', _) => self.soft_reset(),
+                (b'~', value) => self.select_line_type(value),
+                (_, value) => self.select_active(value),
+            },
+            _ => self.reset(),
+        }
+    }
+
+    /// ESC c: what was noted as changed stays noted.
+    fn reset(&mut self) {
+        let State {
+            rows,
+            changed,
+            line,
+            ..
+        } = self.state.clone();
+        self.state = State::fresh(rows);
+        self.state.changed = changed;
+        self.state.line.changed = line.changed;
+        self.page.fill(Cell::BLANK);
+        self.line.fill(Cell::BLANK);
+    }
+
+    /// CSI ! p.
+    fn soft_reset(&mut self) {
+        let state = &mut self.state;
+        state.insert = false;
+        state.origin = false;
+        state.autowrap = false;
+        state.cursor_shown = true;
+        state.top = 1;
+        state.bottom = state.rows;
+        state.sets = Sets::FRESH;
+        state.rendition = Rendition::PLAIN;
+        state.protection = false;
+        state.shift = None;
+        state.cursor.wrap_due = false;
+        state.saved = Saved::FRESH;
+        state.line.active = false;
+        state.line.cursor.wrap_due = false;
+        state.line.saved = Saved::FRESH;
+    }
+
+    /// CSI $ ~: wrap due stays.
+    fn select_line_type(&mut self, value: u32) {
+        let line = &mut self.state.line;
+        match value {
+            0 => (line.exists, line.active) = (false, false),
+            1 | 2 => line.exists = true,
+            _ => {}
+        }
+    }
+
+    /// CSI $ }: wrap due stays.
+    fn select_active(&mut self, value: u32) {
+        let line = &mut self.state.line;
+        match value {
+            0 => line.active = false,
+            1 if line.exists => line.active = true,
+            _ => {}
+        }
+    }
+
     // ---- Moves and printing -------------------------------------------------
 
     fn put(&mut self, cell: Cell) {
@@ -202,10 +322,12 @@ impl Scene {
         }
     }
 
-    /// IND, but for wrap due.
+    /// IND, but for wrap due. The line never scrolls.
     fn index(&mut self) {
         let row = self.state.cursor.row;
-        if row == self.state.bottom {
+        if self.state.line.active {
+            // Nothing.
+        } else if row == self.state.bottom {
             self.page.delete_rows(self.state.top, self.state.bottom, 1);
         } else if row == self.state.rows {
             // Nothing.
@@ -217,7 +339,9 @@ impl Scene {
     /// RI, but for wrap due.
     fn reverse_index(&mut self) {
         let row = self.state.cursor.row;
-        if row == self.state.top {
+        if self.state.line.active {
+            // Nothing.
+        } else if row == self.state.top {
             self.page.insert_rows(self.state.top, self.state.bottom, 1);
         } else if row == 1 {
             // Nothing.
@@ -327,10 +451,6 @@ impl Scene {
                 self.restore();
                 Due::AsLeft
             }
-            (b"", b'c') => {
-                self.reset();
-                Due::Cleared
-            }
             (b"", b'n') => {
                 self.state.sets.gl = Slot::G2;
                 Due::Kept
@@ -408,13 +528,6 @@ impl Scene {
         }
     }
 
-    fn reset(&mut self) {
-        let noted = self.state.changed.clone();
-        self.state = State::fresh(self.state.rows);
-        self.state.changed = noted;
-        self.page.fill(Cell::BLANK);
-    }
-
     // ---- Control sequences --------------------------------------------------
 
     fn control_sequence(
@@ -429,7 +542,9 @@ impl Scene {
         let n = value(0).max(1);
         let inside =
             self.state.top <= self.state.cursor.row && self.state.cursor.row <= self.state.bottom;
+        let on_line = self.state.line.active;
         match (mark, intermediates, last) {
+            (None, b"", b'L' | b'M' | b'r') if on_line => Due::Kept,
             (None, b"", b'A') => self.up(n),
             (None, b"", b'B') => self.down(n),
             (None, b"", b'C') => self.right(n),
@@ -466,7 +581,6 @@ impl Scene {
             }
             (None, b"\"", b'q') => self.select_protection(selector),
             (None, b"", b'r') => self.set_margins(value(0), value(1)),
-            (None, b"!", b'p') => self.soft_reset(),
             (None, b"$", b'z' | b'{' | b'x' | b'v' | b'r' | b't') => {
                 self.rectangle_function(last, parameters);
                 Due::Kept
@@ -600,6 +714,7 @@ impl Scene {
 
     fn set_private_mode(&mut self, mode: u32, on: bool) {
         match mode {
+            6 if self.state.line.active => {}
             6 => {
                 self.state.origin = on;
                 self.home();
@@ -609,6 +724,7 @@ impl Scene {
                 self.state.autowrap = on;
                 if !on {
                     self.state.cursor.wrap_due = false;
+                    self.state.line.cursor.wrap_due = false;
                 }
             }
             25 => self.state.cursor_shown = on,
@@ -653,22 +769,6 @@ impl Scene {
         self.state.top = top;
         self.state.bottom = bottom;
         self.home();
-        Due::Cleared
-    }
-
-    fn soft_reset(&mut self) -> Due {
-        let state = &mut self.state;
-        state.insert = false;
-        state.origin = false;
-        state.autowrap = false;
-        state.cursor_shown = true;
-        state.top = 1;
-        state.bottom = state.rows;
-        state.sets = Sets::FRESH;
-        state.rendition = Rendition::PLAIN;
-        state.protection = false;
-        state.saved = Saved::FRESH;
-        state.shift = None;
         Due::Cleared
     }
 }

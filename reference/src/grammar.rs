@@ -80,10 +80,12 @@ enum Kind {
     EchoScene,
     RectangleScene,
     ColonScene,
+    Switches,
+    StatusScene,
 }
 
 /// Every kind, with its usual weight.
-const KINDS: [(Kind, usize); 34] = [
+const KINDS: [(Kind, usize); 36] = [
     (Kind::Text, 30),
     (Kind::EdgeText, 15),
     (Kind::Controls, 15),
@@ -118,6 +120,8 @@ const KINDS: [(Kind, usize); 34] = [
     (Kind::EchoScene, 2),
     (Kind::RectangleScene, 8),
     (Kind::ColonScene, 6),
+    (Kind::Switches, 3),
+    (Kind::StatusScene, 10),
 ];
 
 /// The weights for a seed: some kinds not at all, some seldom, one to three
@@ -251,6 +255,8 @@ impl Writer {
             Kind::EchoScene => self.echo_scene(),
             Kind::RectangleScene => self.rectangle_scene(),
             Kind::ColonScene => self.colon_scene(),
+            Kind::Switches => self.switches(),
+            Kind::StatusScene => self.status_scene(),
         }
     }
 
@@ -396,7 +402,8 @@ impl Writer {
 
     /// Any listed function, well formed.
     fn any_listed(&mut self) {
-        match self.random.below(22) {
+        match self.random.below(23) {
+            22 => self.switches(),
             0..=3 => self.moves(),
             4 | 5 => self.erases(),
             6 | 7 => self.edits(),
@@ -702,6 +709,19 @@ impl Writer {
         self.csi(selector, "*x");
     }
 
+    /// Whether there is a status line, or which of page and line is active.
+    fn switches(&mut self) {
+        if self.random.percent(50) {
+            let own = ["1", "2", "1", "2", "0", "", "3", "1;0", "0;1"];
+            let parameters = self.random.pick(&own);
+            self.csi(parameters, "$~");
+        } else {
+            let own = ["0", "", "0", "0", "1", "1", "2", "0;1", "1;0"];
+            let parameters = self.random.pick(&own);
+            self.csi(parameters, "$}");
+        }
+    }
+
     fn queries(&mut self) {
         match self.random.below(8) {
             0 => {
@@ -804,7 +824,7 @@ impl Writer {
             self.out.push(byte);
         }
         let last = if self.random.percent(50) {
-            self.random.pick(b"ABCDHfJKXLM@Pghlmnqrpcxz{vt")
+            self.random.pick(b"ABCDHfJKXLM@Pghlmnqrpcxz{vt~}")
         } else {
             self.random.byte(0x40, 0x7E)
         };
@@ -818,7 +838,7 @@ impl Writer {
         let parameter = self
             .random
             .pick(&["", "0", "1", "2", "3", "4", "5", "6", "7", "20"]);
-        let last = self.random.pick(b"ABCDHfJKXLM@Pghlmnqrpcxz{vt");
+        let last = self.random.pick(b"ABCDHfJKXLM@Pghlmnqrpcxz{vt~}");
         self.high_control(0x9B);
         if marked {
             let mark = self.random.byte(0x3C, 0x3F);
@@ -1298,6 +1318,66 @@ impl Writer {
         self.high_control(0x9B);
         self.write(text.as_bytes());
         self.write(last.as_bytes());
+    }
+
+    /// To the line, mostly at its edges, and mostly back to the page.
+    fn status_scene(&mut self) {
+        let line = self.random.pick(&["1", "2"]);
+        self.csi(line, "$~");
+        if self.random.percent(40) {
+            self.csi("?7", "h");
+        }
+        // Now and then with wrap due on the page, and then on the line too.
+        let due = self.random.percent(30);
+        if due {
+            let row = self.random.pick(&[1, 7, 24, 48]);
+            self.csi(&format!("{row};80"), "H");
+            self.text(1);
+        }
+        self.csi("1", "$}");
+        if due {
+            self.csi(";80", "H");
+            self.text(1);
+        }
+        for _ in 0..self.random.between(2, 9) {
+            match self.random.below(14) {
+                0 => self.out.push(0x0D),
+                1 => self.erases(),
+                2 | 3 => {
+                    let column = self.random.pick(&[1, 2, 40, 77, 79, 80, 80]);
+                    let row = self.random.pick(&["", "1", "7"]);
+                    self.csi(&format!("{row};{column}"), "H");
+                    let length = self.random.between(1, 5);
+                    self.text(length);
+                }
+                4 => self.any_listed(),
+                5 => self.edits(),
+                6 => self.protection_and_shift(),
+                7 => {
+                    let last = self.random.pick(b"78");
+                    self.escape(b"", last);
+                }
+                8 => self.rectangles(),
+                9 => self.control(),
+                10 => self.queries(),
+                11 if self.random.percent(30) => self.switches(),
+                _ => {
+                    let length = self.random.between(1, 12);
+                    self.text(length);
+                }
+            }
+        }
+        match self.random.below(20) {
+            0 => {}
+            1 => self.csi("!p", ""),
+            2 => self.csi("", "$~"),
+            _ => {
+                let page = self.random.pick(&["0", ""]);
+                self.high_control(0x9B);
+                self.write(page.as_bytes());
+                self.write(b"$}");
+            }
+        }
     }
 
     fn origin_scene(&mut self) {

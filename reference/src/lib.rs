@@ -4,16 +4,16 @@
 //! docs/SCOPE.md) alone, and is slow on purpose: during a call the page is rows
 //! of unpacked cells; every step makes a whole new page; the rows that a step
 //! changed are found by comparing the whole page before it with the whole page
-//! after it.
+//! after it. The status line is a page of one row.
 //!
 //! * `cell`: one cell and its word.
 //! * `page`: the rows of cells, and what can be done to them.
-//! * `state`: everything between two calls but the page; fresh and whole.
+//! * `state`: everything between two calls but the cells; fresh and whole.
 //! * `parser`: from bytes to signs, controls and finished sequences.
 //! * `functions`: what each of these does; steps.
 //! * `rectangles`: the functions on a rectangle of cells.
 //! * `reply`: the texts that are sent back.
-//! * `calls`: the four calls with their answers.
+//! * `calls`: the five calls with their answers.
 //! * `text`: the page as text.
 //! * `grammar`: seeded hostile byte streams for comparing.
 //! * `script`: scripts of calls, and carrying them out.
@@ -36,7 +36,7 @@ pub mod state;
 pub mod text;
 pub mod words;
 
-pub use calls::{ask, feed, read_cell, start};
+pub use calls::{ask, feed, read_cell, row, start};
 pub use parser::{Given, Parser};
-pub use state::{is_whole, Cursor, Extent, Saved, Sets, Slot, State};
+pub use state::{is_whole, Cursor, Extent, Line, Saved, Sets, Slot, State};
 pub use text::text;

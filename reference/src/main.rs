@@ -5,7 +5,8 @@ use std::io::{self, Read, Write};
 
 fn main() -> io::Result<()> {
     let mut page = vec![0; 24 * 80];
-    let (_, mut state) = start(24, &mut page);
+    let mut line = vec![0; 80];
+    let (_, mut state) = start(24, &mut page, &mut line);
     let mut input = io::stdin().lock();
     let mut chunk = [0; 4096];
     loop {
@@ -19,7 +20,7 @@ fn main() -> io::Result<()> {
         while !rest.is_empty() {
             // Replies go nowhere; after answer 3 there is room again.
             let mut reply = [0; 256];
-            let (_, read, _, after) = feed(&state, &mut page, rest, &mut reply);
+            let (_, read, _, after) = feed(&state, &mut page, &mut line, rest, &mut reply);
             state = after;
             rest = &rest[read..];
         }

@@ -4,6 +4,7 @@
 mod colons;
 mod leak;
 mod rectangles;
+mod status;
 
 use crate::examples;
 use crate::grammar::{stream, Random};
@@ -12,6 +13,7 @@ use crate::script::*;
 pub use colons::*;
 pub use leak::*;
 pub use rectangles::*;
+pub use status::*;
 
 pub const SIZES: [u16; 3] = [24, 36, 48];
 
@@ -19,7 +21,8 @@ pub const SIZES: [u16; 3] = [24, 36, 48];
 const ROOM: u16 = 12;
 
 /// The bytes of every file in the directory of captures.
-pub const CAPTURES: [(&str, &[u8]); 17] = [
+pub const CAPTURES: [(&str, &[u8]); 18] = [
+    ("antenna", include_bytes!("../../captures/antenna.bytes")),
     ("boot", include_bytes!("../../captures/boot.bytes")),
     ("damaged", include_bytes!("../../captures/damaged.bytes")),
     ("edge", include_bytes!("../../captures/edge.bytes")),
@@ -73,6 +76,17 @@ pub fn fixed_parts() -> Vec<Script> {
         colons_in_each_phase(),
         colons_in_calls(),
         colon_rooms(),
+        functions_on_the_line(),
+        rectangles_on_the_line(),
+        to_and_fro(),
+        resets_and_starts(),
+        two_saved_cursors(),
+        sequences_across(),
+        rooms_on_the_line(),
+        line_lengths(),
+        broken_lines(),
+        line_notes(),
+        rows_of_what_is_active(),
         two_pages(),
         bytes_in_each_phase(),
         rooms(),
@@ -87,10 +101,12 @@ pub fn fixed_parts() -> Vec<Script> {
 
 // ---- Before any start, the examples, the captures ---------------------------
 
-/// The buffer is all 0 and nothing is lent.
+/// The buffers are all 0; nothing of the page is lent, and 80 words of the line.
 pub fn before_any_start() -> Script {
     let mut s = Script::new();
     s.page();
+    s.line();
+    s.row(1);
     s.text();
     s.view();
     s.ask();
@@ -105,6 +121,14 @@ pub fn before_any_start() -> Script {
     s.word(4096, 0x1111);
     s.word(65535, 0x2222);
     s.lend(1920);
+    s.line_word(80, 0x8041);
+    s.line_word(81, 0x4042);
+    s.line_word(129, 0x3333);
+    for words in [0, 80, 81, 65535, 80] {
+        s.lend_line(words);
+        s.line();
+        s.row(1);
+    }
     s.page();
     s.read(1, 4);
     s.read(24, 80);
@@ -113,6 +137,12 @@ pub fn before_any_start() -> Script {
     s.ask();
     s.view();
     s.page();
+    s.feed(b"\x1B[1$~\x1B[1$}z\x1B[6n", ROOM);
+    s.row(1);
+    s.ask();
+    s.view();
+    s.line();
+    s.feed(b"\x1B[0$}", 0);
     s.lend(65535);
     s.page();
     s.read(1, 1);
@@ -207,6 +237,7 @@ pub fn captures() -> Script {
                 }
                 look(&mut s);
                 s.page();
+                s.line();
             }
         }
     }
@@ -435,6 +466,7 @@ pub fn listed(rows: u16) -> Vec<Vec<u8>> {
     }
     csi("", "!p");
     list.extend(listed_rectangles(rows));
+    list.extend(listed_switches());
     // Two functions in a row.
     for bytes in [
         &b"\x1B7\x1B[3;3H\x1B8"[..],
@@ -609,6 +641,7 @@ fn odd(rows: u16) -> Vec<Vec<u8>> {
         csi(&format!("2;3{}", many(count, "")), "H");
     }
     list.extend(odd_rectangles(rows));
+    list.extend(odd_switches());
     // Functions in a row.
     for bytes in [
         &b"\x1B8\x1B8"[..],
@@ -923,7 +956,7 @@ pub fn rooms() -> Script {
 
 // ---- Broken states ----------------------------------------------------------
 
-const FIELDS: [u16; 13] = [
+const FIELDS: [u16; 20] = [
     ROWS,
     ROW,
     COLUMN,
@@ -937,6 +970,13 @@ const FIELDS: [u16; 13] = [
     SAVED_WRAP_DUE,
     SHOWN,
     CHANGED_ROW,
+    LINE_EXISTS,
+    LINE_ACTIVE,
+    LINE_COLUMN,
+    LINE_WRAP_DUE,
+    LINE_SAVED_COLUMN,
+    LINE_SAVED_WRAP_DUE,
+    LINE_CHANGED,
 ];
 
 const VALUES: [u16; 38] = [
@@ -944,7 +984,7 @@ const VALUES: [u16; 38] = [
     64, 65, 78, 79, 80, 81, 127, 128, 254, 255, 256, 280, 65535,
 ];
 
-/// All four calls on a state that may be broken.
+/// All five calls on a state that may be broken.
 fn all_calls(s: &mut Script, rows: u16) {
     s.feed(b"", 3);
     s.view();
@@ -952,6 +992,8 @@ fn all_calls(s: &mut Script, rows: u16) {
     s.read(rows, 80);
     s.read(rows + 1, 80);
     s.read(0, 1);
+    s.row(rows);
+    s.row(rows + 1);
     s.feed(b"q\x1B[6n", ROOM);
     s.ask();
     s.feed(b"\x1B8q", ROOM);
@@ -976,7 +1018,11 @@ pub fn broken_states() -> Script {
     for rows in SIZES {
         for before in befores {
             for field in FIELDS {
-                for value in VALUES {
+                let values = match field {
+                    LINE_EXISTS.. => &[0, 1, 80, 81][..],
+                    _ => &VALUES[..],
+                };
+                for &value in values {
                     s.start_right(rows);
                     s.feed(before, 0);
                     s.field(field, value);
@@ -1023,6 +1069,9 @@ pub fn broken_states() -> Script {
         s.field(COLUMN, 7);
         s.field(TOP, 6);
         s.field(BOTTOM, 8);
+        s.field(LINE_ACTIVE, 0);
+        s.field(LINE_COLUMN, 7);
+        s.field(LINE_WRAP_DUE, 0);
         s.field(ROWS, rows);
         s.feed(b"x\x1B[6n", ROOM);
         s.ask();
@@ -1272,7 +1321,9 @@ fn parsers_left_by_bytes() -> Vec<(Given, Vec<&'static [u8]>)> {
         b"\x1B7",
         b"\x9B1\"q",
     ];
-    let rectangles: Vec<&[u8]> = vec![b"r", b"t", b"v", b"x", b"z", b"{", b"$r", b"1r"];
+    let rectangles: Vec<&[u8]> = vec![
+        b"r", b"t", b"v", b"x", b"z", b"{", b"~", b"}", b"$r", b"1r", b"$~",
+    ];
     let escape: Vec<&[u8]> = vec![
         b"7", b"8", b"c", b"D", b"E", b"H", b"M", b"Z", b"n", b"B", b"0", b"A", b"5", b"F", b"G",
         b"(0", b"%5", b"#8", b" G", b"%%5", b"\x7F0", b"\xB0", b"\n0", b"\x180", b"]x\x9Cy",
@@ -1487,6 +1538,8 @@ pub fn wrong_lengths() -> Script {
                 ] {
                     s.read(row, column);
                 }
+                s.row(1);
+                s.row(0);
                 s.ask();
                 s.lend(rows * 80);
                 s.feed(b"Cx\x1B[6n", ROOM);
@@ -1528,6 +1581,7 @@ pub fn all_starts() -> Script {
             s.start_right(48);
             s.feed(b"q\x1B[9;9r\x1B[30;70Hxy", 0);
             s.word(100, 0xFFFF);
+            s.line_word(7, 0xFFFF);
             s.start(rows, length);
             s.view();
             s.read(1, 1);
@@ -1540,6 +1594,7 @@ pub fn all_starts() -> Script {
             s.lend(3840);
             if rows % 8 == 0 || SIZES.contains(&rows) {
                 s.page();
+                s.line();
             }
         }
     }
@@ -1684,6 +1739,18 @@ impl Session {
             self.script.word(place as u16, word);
             self.settled &= is_settled(word);
         }
+        if random.percent(50) {
+            self.line_junk(random);
+        }
+    }
+
+    /// The same for the line, whose text is never asked for.
+    fn line_junk(&mut self, random: &mut Random) {
+        for _ in 0..random.pick(&[1, 5, 40]) {
+            let widest = random.pick(&[80, 80, 80, 140]);
+            let column = random.between(1, widest);
+            self.script.line_word(column as u16, random.next() as u16);
+        }
     }
 
     fn text(&mut self) {
@@ -1719,8 +1786,35 @@ impl Session {
             if !random.percent((length * 2 + 4).min(60)) {
                 continue;
             }
-            match random.below(44) {
-                40.. => self.script.view(),
+            match random.below(56) {
+                44..=46 => self.script.line(),
+                47..=51 => {
+                    let row = random.between(1, self.rows as usize + 1) as u16;
+                    self.script.row(1);
+                    self.script.row(row);
+                }
+                52 => {
+                    let row = random.pick(&[0, 2, 24, 25, 36, 37, 48, 49, 256, 257, 65535]);
+                    self.script.row(row);
+                }
+                53 => self.line_junk(random),
+                54 | 55 => {
+                    // A wrong length of the line for a while.
+                    self.script.lend_line(random.pick(&LINE_LENGTHS));
+                    self.script.feed(piece, ROOM);
+                    self.script.row(1);
+                    self.script.line();
+                    self.script.ask();
+                    let starts = random.percent(10);
+                    if starts {
+                        self.script.start_right(self.rows);
+                    }
+                    self.script.lend_line(80);
+                    if starts {
+                        self.start(self.rows);
+                    }
+                }
+                40..=43 => self.script.view(),
                 0..=11 => self.script.ask(),
                 12..=25 => {
                     for _ in 0..random.between(1, 6) {
@@ -1766,6 +1860,7 @@ impl Session {
         }
         self.script.view();
         self.script.ask();
+        self.script.line();
         self.text();
     }
 }

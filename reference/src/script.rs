@@ -2,7 +2,7 @@
 //! calls. Another program that carries out the same script must write the same
 //! output, byte for byte. The format is in README.md.
 
-use crate::calls::{ask, feed, read_cell, start};
+use crate::calls::{ask, feed, read_cell, row, start};
 use crate::cell::Rendition;
 use crate::page::COLUMNS;
 use crate::parser::{Given, Parser};
@@ -12,6 +12,9 @@ use crate::text::text;
 /// The words in the buffer; also the most reply bytes that a feeding is lent.
 pub const BUFFER_WORDS: usize = 4_096;
 pub const MOST_ROOM: usize = 4_096;
+
+/// The words in the line's buffer.
+pub const LINE_BUFFER_WORDS: usize = 128;
 
 /// What every reply byte is before a feeding.
 pub const UNTOUCHED: u8 = 0xEE;
@@ -30,12 +33,19 @@ pub const SAVED_COLUMN: u16 = 9;
 pub const SAVED_WRAP_DUE: u16 = 10;
 pub const SHOWN: u16 = 11;
 pub const CHANGED_ROW: u16 = 12;
+pub const LINE_EXISTS: u16 = 13;
+pub const LINE_ACTIVE: u16 = 14;
+pub const LINE_COLUMN: u16 = 15;
+pub const LINE_WRAP_DUE: u16 = 16;
+pub const LINE_SAVED_COLUMN: u16 = 17;
+pub const LINE_SAVED_WRAP_DUE: u16 = 18;
+pub const LINE_CHANGED: u16 = 19;
 
 /// The bytes after the head of Q.
 const PARSER_BYTES: usize = 37;
 
 /// The bytes that V writes after its letter, and where some of them are.
-pub const VIEW_BYTES: usize = 51;
+pub const VIEW_BYTES: usize = 69;
 pub const VIEW_ROW: usize = 1;
 pub const VIEW_COLUMN: usize = 2;
 pub const VIEW_WRAP_DUE: usize = 3;
@@ -43,6 +53,10 @@ pub const VIEW_TOP: usize = 4;
 pub const VIEW_BOTTOM: usize = 5;
 pub const VIEW_SHOWN: usize = 10;
 pub const VIEW_TABS: usize = 41;
+pub const VIEW_LINE: usize = 51;
+pub const VIEW_LINE_ACTIVE: usize = 52;
+pub const VIEW_LINE_COLUMN: usize = 53;
+pub const VIEW_LINE_WRAP_DUE: usize = 54;
 
 /// A script being built.
 #[derive(Clone, Default)]
@@ -103,6 +117,25 @@ impl Script {
         self.command(b'T', 0, 0);
     }
 
+    pub fn lend_line(&mut self, words: u16) {
+        self.command(b'M', words, 0);
+    }
+
+    /// The word in a column of the line, from 1.
+    pub fn line_word(&mut self, column: u16, word: u16) {
+        self.command(b'I', column - 1, word);
+    }
+
+    /// Every word of the line.
+    pub fn line(&mut self) {
+        self.command(b'D', 0, 0);
+    }
+
+    /// The call that hands back a row of what is active.
+    pub fn row(&mut self, row: u16) {
+        self.command(b'O', row, 0);
+    }
+
     pub fn word(&mut self, number: u16, word: u16) {
         self.command(b'W', number, word);
     }
@@ -127,7 +160,7 @@ impl Script {
         }
     }
 
-    /// Every field of the state but the parser and the changed rows.
+    /// Every field of the state but the parser and what is noted as changed.
     pub fn view(&mut self) {
         self.command(b'V', 0, 0);
     }
@@ -160,6 +193,7 @@ pub fn first_command(script: &[u8]) -> Option<(Command<'_>, &[u8])> {
         b'F' => a as usize,
         b'Q' => PARSER_BYTES,
         b'S' | b'L' | b'A' | b'R' | b'P' | b'T' | b'W' | b'B' | b'V' => 0,
+        b'M' | b'I' | b'D' | b'O' => 0,
         _ => return None,
     };
     let (following, rest) = rest.split_at_checked(length)?;
@@ -182,10 +216,12 @@ pub fn commands(script: &[u8]) -> impl Iterator<Item = Command<'_>> {
     })
 }
 
-/// The buffer, how much of it is lent, and the newest state.
+/// The buffers of page and line, how much of each is lent, and the newest state.
 pub struct Machine {
     buffer: Vec<u16>,
     lent: usize,
+    line_buffer: Vec<u16>,
+    line_lent: usize,
     state: State,
 }
 
@@ -198,11 +234,14 @@ impl Default for Machine {
 impl Machine {
     pub fn new() -> Machine {
         let mut buffer = vec![0; BUFFER_WORDS];
+        let mut line_buffer = vec![0; LINE_BUFFER_WORDS];
         // Refused: the buffer is no page of 24 rows.
-        let (_, state) = start(24, &mut buffer);
+        let (_, state) = start(24, &mut buffer, &mut line_buffer[..COLUMNS]);
         Machine {
             buffer,
             lent: 0,
+            line_buffer,
+            line_lent: COLUMNS,
             state,
         }
     }
@@ -216,6 +255,11 @@ impl Machine {
         &self.buffer[..self.lent]
     }
 
+    /// The words of the line that are lent.
+    pub fn line(&self) -> &[u16] {
+        &self.line_buffer[..self.line_lent]
+    }
+
     /// Carries out one command; what it writes is added to the output.
     pub fn carry_out(&mut self, command: Command, output: &mut Vec<u8>) {
         let Command { letter, a, b, .. } = command;
@@ -223,7 +267,8 @@ impl Machine {
             b'S' => {
                 self.lent = (b as usize).min(BUFFER_WORDS);
                 let page = &mut self.buffer[..self.lent];
-                let (answer, state) = start(a as usize, page);
+                let line = &mut self.line_buffer[..self.line_lent];
+                let (answer, state) = start(a as usize, page, line);
                 self.state = state;
                 output.extend_from_slice(&[b'S', answer]);
             }
@@ -231,8 +276,9 @@ impl Machine {
             b'F' => {
                 let mut reply = vec![UNTOUCHED; (b as usize).min(MOST_ROOM)];
                 let page = &mut self.buffer[..self.lent];
+                let line = &mut self.line_buffer[..self.line_lent];
                 let (answer, read, replied, state) =
-                    feed(&self.state, page, command.following, &mut reply);
+                    feed(&self.state, page, line, command.following, &mut reply);
                 self.state = state;
                 output.extend_from_slice(&[b'F', answer]);
                 output.extend_from_slice(&(read as u16).to_le_bytes());
@@ -240,7 +286,7 @@ impl Machine {
                 output.extend_from_slice(&reply);
             }
             b'A' => {
-                let (answer, rows, count, state) = ask(&self.state);
+                let (answer, rows, count, line_changed, state) = ask(&self.state);
                 self.state = state;
                 let mut set = [0u8; 8];
                 for row in rows {
@@ -248,7 +294,7 @@ impl Machine {
                 }
                 output.extend_from_slice(&[b'A', answer]);
                 output.extend_from_slice(&set);
-                output.push(count as u8);
+                output.extend_from_slice(&[count as u8, line_changed as u8]);
             }
             b'R' => {
                 let (answer, word) = read_cell(&self.state, self.page(), a as usize, b as usize);
@@ -257,9 +303,22 @@ impl Machine {
             }
             b'P' => {
                 output.push(b'P');
-                for word in self.page() {
-                    output.extend_from_slice(&word.to_le_bytes());
+                write_words(self.page(), output);
+            }
+            b'M' => self.line_lent = (a as usize).min(LINE_BUFFER_WORDS),
+            b'I' => {
+                if let Some(word) = self.line_buffer.get_mut(a as usize) {
+                    *word = b;
                 }
+            }
+            b'D' => {
+                output.push(b'D');
+                write_words(self.line(), output);
+            }
+            b'O' => {
+                let (answer, words) = row(&self.state, self.page(), self.line(), a as usize);
+                output.extend_from_slice(&[b'O', answer, words.len() as u8]);
+                write_words(words, output);
             }
             b'T' => {
                 let whole_rows = self.lent / COLUMNS * COLUMNS;
@@ -307,8 +366,21 @@ impl Machine {
             CHANGED_ROW => {
                 state.changed.insert((value as usize + 63) % 64 + 1);
             }
+            LINE_EXISTS => state.line.exists = flag,
+            LINE_ACTIVE => state.line.active = flag,
+            LINE_COLUMN => state.line.cursor.column = number,
+            LINE_WRAP_DUE => state.line.cursor.wrap_due = flag,
+            LINE_SAVED_COLUMN => state.line.saved.cursor.column = number,
+            LINE_SAVED_WRAP_DUE => state.line.saved.cursor.wrap_due = flag,
+            LINE_CHANGED => state.line.changed = flag,
             _ => {}
         }
+    }
+}
+
+fn write_words(words: &[u16], output: &mut Vec<u8>) {
+    for word in words {
+        output.extend_from_slice(&word.to_le_bytes());
     }
 }
 
@@ -349,6 +421,7 @@ fn view_of(state: &State) -> [u8; VIEW_BYTES] {
         Some(Shift::G3) => 2,
     };
     let saved = &state.saved;
+    let line = &state.line;
     let mut bytes = Vec::new();
     bytes.push(state.rows as u8);
     bytes.extend([state.cursor.row as u8, state.cursor.column as u8]);
@@ -370,6 +443,14 @@ fn view_of(state: &State) -> [u8; VIEW_BYTES] {
     for eight in state.tabs.chunks(8) {
         bytes.push((0..8).map(|n| (eight[n] as u8) << n).sum());
     }
+    bytes.extend([line.exists as u8, line.active as u8]);
+    bytes.extend([line.cursor.column as u8, line.cursor.wrap_due as u8]);
+    bytes.push(line.saved.cursor.column as u8);
+    bytes.push(line.saved.cursor.wrap_due as u8);
+    bytes.extend(rendition(line.saved.rendition));
+    bytes.extend(sets(line.saved.sets));
+    bytes.push(line.saved.protection as u8);
+    bytes.push(shift(line.saved.shift));
     let mut view = [0; VIEW_BYTES];
     view.copy_from_slice(&bytes);
     view
@@ -413,14 +494,14 @@ mod tests {
         let expected: [&[u8]; 10] = [
             b"P",
             b"T\0\0",
-            b"A\0\0\0\0\0\0\0\0\0\0",
+            b"A\0\0\0\0\0\0\0\0\0\0\0",
             b"R\x02\x20\0",
             b"F\x02\0\0\0\0\xEE\xEE",
             b"",
             b"R\0\0\0",
             b"R\x04\x20\0",
             b"F\0\x01\0\0\0",
-            b"A\0\x01\0\0\0\0\0\0\0\x01",
+            b"A\0\x01\0\0\0\0\0\0\0\x01\0",
         ];
         assert_eq!(output, expected.concat());
     }
@@ -448,7 +529,7 @@ mod tests {
             b"R\x02\x20\0",
             b"R\0x\0",
             b"F\0\x0C\0\x08\0\x1B[24;80R",
-            b"A\0\0\0\0\0\0\0\0\0\0",
+            b"A\0\0\0\0\0\0\0\0\0\0\0",
             b"S\x01",
             b"S\x02",
             b"P",
@@ -469,7 +550,7 @@ mod tests {
             s.feed(b"\x1B[6n", 7);
             // Broken: wrap due without autowrap. What is no field is left.
             s.field(WRAP_DUE, 2);
-            s.field(13, 1);
+            s.field(20, 1);
             s.field(65535, 1);
             s.feed(b"x", 1);
             s.ask();
@@ -500,11 +581,11 @@ mod tests {
             &b"S\0"[..],
             b"F\0\x04\0\x07\0\x1B[3;80R",
             b"F\x01\0\0\0\0\xEE",
-            b"A\x01\0\0\0\0\0\0\0\0\0",
+            b"A\x01\0\0\0\0\0\0\0\0\0\0",
             b"F\0\x01\0\0\0",
-            b"A\0\x08\0\0\0\0\0\0\0\x01",
-            b"A\0\x03\0\0\0\0\0\0\0\x02",
-            b"A\x01\0\0\0\0\0\0\0\0\0",
+            b"A\0\x08\0\0\0\0\0\0\0\x01\0",
+            b"A\0\x03\0\0\0\0\0\0\0\x02\0",
+            b"A\x01\0\0\0\0\0\0\0\0\0\0",
             b"S\0",
             b"R\0\xC1\xFF",
         ]
@@ -547,6 +628,7 @@ mod tests {
             &[0, 0, 0, 0, 0, 0, 0, 2, 2, 0, 2, 0],
             &[1, 1, 0, 0, 0, 0, 0, 0, 0, 0, 2, 2, 0, 2, 0, 0],
             &[0, 1, 1, 1, 1, 1, 1, 1, 1, 1],
+            &[0, 0, 1, 0, 1, 0, 0, 0, 0, 0, 0, 0, 2, 2, 0, 2, 0, 0],
         ]
         .concat();
         let mut after = [
@@ -554,6 +636,7 @@ mod tests {
             &[0, 1, 0, 1, 0, 2, 1, 3, 0, 1, 3, 2],
             &[6, 80, 1, 1, 0, 1, 0, 1, 0, 1, 3, 0, 3, 1, 1, 1],
             &[0, 0, 0, 0, 0, 0, 0, 0, 0, 128],
+            &[0, 0, 1, 0, 1, 0, 0, 0, 0, 0, 0, 0, 2, 2, 0, 2, 0, 0],
         ]
         .concat();
         let mut expected = [b"S\0V", &fresh[..]].concat();
@@ -589,6 +672,106 @@ mod tests {
             let view = &output[output.len() - VIEW_BYTES..];
             assert_eq!(view[VIEW_TABS - 2..VIEW_TABS], fields);
         }
+    }
+
+    #[test]
+    fn the_line_is_as_the_format_says() {
+        let output = answered(|s| {
+            // Before the first start: 80 words of 0 are lent.
+            s.line();
+            s.start_right(24);
+            s.line_word(1, 0xC041);
+            s.command(b'I', 128, 0x1111);
+            s.command(b'I', 65535, 0x1111);
+            s.feed(b"\x1B[1$~\x1B[1$}\x1B[2Cx", 0);
+            s.lend_line(3);
+            s.line();
+            // A wrong length: refused.
+            s.row(1);
+            s.feed(b"y", 1);
+            s.start_right(24);
+            s.read(1, 1);
+            s.lend_line(500);
+            s.line_word(128, 0x1234);
+            s.line();
+            s.lend_line(80);
+            // The refused start left the fresh state: the page is active.
+            s.row(0);
+            s.row(24);
+            s.row(25);
+            s.ask();
+        });
+        let words =
+            |list: &[u16]| -> Vec<u8> { list.iter().flat_map(|word| word.to_le_bytes()).collect() };
+        let mut line = [0x20; 128];
+        line[0] = 0xC041;
+        line[2] = b'x' as u16;
+        line[80..].fill(0);
+        line[127] = 0x1234;
+        let expected: [&[u8]; 17] = [
+            b"D",
+            &[0; 160],
+            b"S\0",
+            b"F\0\x0F\0\0\0",
+            b"D",
+            &words(&line[..3]),
+            b"O\x02\0",
+            b"F\x02\0\0\0\0\xEE",
+            b"S\x02",
+            b"R\0\x20\0",
+            b"D",
+            &words(&line),
+            b"O\x04\0",
+            b"O\0\x50",
+            &words(&[0x20; 80]),
+            b"O\x04\0",
+            b"A\0\0\0\0\0\0\0\0\0\0\0",
+        ];
+        assert_eq!(output, expected.concat());
+    }
+
+    #[test]
+    fn every_field_of_the_line_is_seen() {
+        let output = answered(|s| {
+            s.start_right(24);
+            s.feed(b"\x1B[?7h\x1B[1$~\x1B[1$}\x1B[80Cx\x1B[1;7m", 0);
+            s.feed(b"\x1B[1\"q\x1B)0\x1B.A\x1B+B\x1Bo\x1B~\x8F\x1B7", 0);
+            s.view();
+            s.ask();
+            s.field(LINE_CHANGED, 256);
+            s.ask();
+            s.field(LINE_CHANGED, 2);
+            s.ask();
+            s.field(LINE_EXISTS, 0);
+            s.field(LINE_CHANGED, 1);
+            s.ask();
+            s.field(LINE_ACTIVE, 0);
+            s.field(LINE_COLUMN, 256 + 9);
+            s.field(LINE_WRAP_DUE, 0);
+            s.field(LINE_SAVED_COLUMN, 7);
+            s.field(LINE_SAVED_WRAP_DUE, 0);
+            s.view();
+            s.ask();
+        });
+        let views: Vec<&[u8]> = output
+            .windows(1 + VIEW_BYTES)
+            .filter(|piece| piece[..2] == [b'V', 24])
+            .map(|piece| &piece[1 + VIEW_LINE..])
+            .collect();
+        assert_eq!(
+            views[0],
+            [1, 1, 80, 1, 80, 1, 1, 0, 0, 1, 0, 1, 3, 0, 3, 1, 1, 2]
+        );
+        assert_eq!(
+            views[1],
+            [0, 0, 9, 0, 7, 0, 1, 0, 0, 1, 0, 1, 3, 0, 3, 1, 1, 2]
+        );
+        let askings: Vec<[u8; 2]> = output
+            .windows(12)
+            .filter(|piece| piece[0] == b'A' && piece[2..11] == [0; 9])
+            .map(|piece| [piece[1], piece[11]])
+            .collect();
+        assert_eq!(askings, [[0, 1], [0, 0], [0, 1], [1, 0], [0, 1]]);
     }
 
     #[test]
@@ -642,12 +825,12 @@ mod tests {
         let expected: [&[u8]; 9] = [
             b"S\0",
             b"F\0\x06\0\x07\0\x1B[5;77R\xEE",
-            b"A\x01\0\0\0\0\0\0\0\0\0",
+            b"A\x01\0\0\0\0\0\0\0\0\0\0",
             b"F\x01\0\0\0\0\xEE",
-            b"A\0\0\0\0\0\0\0\0\0\0",
-            b"A\x01\0\0\0\0\0\0\0\0\0",
+            b"A\0\0\0\0\0\0\0\0\0\0\0",
+            b"A\x01\0\0\0\0\0\0\0\0\0\0",
             b"F\0\x05\0\x07\0\x1B[5;77R\xEE",
-            b"A\x01\0\0\0\0\0\0\0\0\0",
+            b"A\x01\0\0\0\0\0\0\0\0\0\0",
             b"F\0\x05\0\x07\0\x1B[5;77R\xEE",
         ];
         assert_eq!(output, expected.concat());

@@ -1,4 +1,4 @@
-//! Everything between two calls but the page.
+//! Everything between two calls but the page and the status line's cells.
 
 use crate::cell::{Rendition, Set};
 use crate::page::COLUMNS;
@@ -91,6 +91,30 @@ impl Saved {
     };
 }
 
+/// The status line, but for its cells.
+#[derive(Clone, Copy, PartialEq, Eq, Debug)]
+pub struct Line {
+    /// There is a line: type 1 or 2.
+    pub exists: bool,
+    /// Bytes act on the line, not on the page.
+    pub active: bool,
+    /// Its row is always 1.
+    pub cursor: Cursor,
+    /// Its row is always 1, and origin always off.
+    pub saved: Saved,
+    pub changed: bool,
+}
+
+impl Line {
+    pub const FRESH: Line = Line {
+        exists: false,
+        active: false,
+        cursor: Cursor::HOME,
+        saved: Saved::FRESH,
+        changed: false,
+    };
+}
+
 /// A pending single shift.
 #[derive(Clone, Copy, PartialEq, Eq, Debug)]
 pub enum Shift {
@@ -132,6 +156,7 @@ pub struct State {
     pub parser: Parser,
     /// The changed rows, from 1.
     pub changed: BTreeSet<usize>,
+    pub line: Line,
 }
 
 impl State {
@@ -160,6 +185,46 @@ impl State {
             saved: Saved::FRESH,
             parser: Parser::Ground,
             changed: BTreeSet::new(),
+            line: Line::FRESH,
+        }
+    }
+
+    /// The state as bytes find it. With the line active it is that of a page of
+    /// one row, with the line's cursor and saved cursor.
+    pub fn of_active(&self) -> State {
+        if !self.line.active {
+            return self.clone();
+        }
+        State {
+            rows: 1,
+            cursor: self.line.cursor,
+            top: 1,
+            bottom: 1,
+            origin: false,
+            saved: self.line.saved,
+            ..self.clone()
+        }
+    }
+
+    /// This state, in which the line is active, once what `of_active` gives was
+    /// changed so. The line takes its cursor and its saved cursor back, and the page
+    /// has its own again; but autowrap off ends the page's wrap due too.
+    pub fn after_line(&self, changed: State) -> State {
+        let mut cursor = self.cursor;
+        cursor.wrap_due &= changed.autowrap;
+        State {
+            rows: self.rows,
+            cursor,
+            top: self.top,
+            bottom: self.bottom,
+            origin: self.origin,
+            saved: self.saved,
+            line: Line {
+                cursor: changed.cursor,
+                saved: changed.saved,
+                ..self.line
+            },
+            ..changed
         }
     }
 }
@@ -176,25 +241,36 @@ pub fn is_whole(state: &State) -> bool {
             && 1 <= cursor.column
             && cursor.column <= COLUMNS
     };
+    let in_line = |cursor: &Cursor| 1 <= cursor.column && cursor.column <= COLUMNS;
+    let may_wrap =
+        |cursor: &Cursor| !cursor.wrap_due || (cursor.column == COLUMNS && state.autowrap);
+    let may_have_wrapped = |saved: &Cursor| !saved.wrap_due || saved.column == COLUMNS;
     let cursor = &state.cursor;
     let saved = &state.saved.cursor;
+    let line = &state.line;
 
     let rows = is_row_count(state.rows);
     let margins = 1 <= state.top && state.top < state.bottom && state.bottom <= state.rows;
-    let wrap_due = !cursor.wrap_due || (cursor.column == COLUMNS && state.autowrap);
     let origin = !state.origin || (state.top <= cursor.row && cursor.row <= state.bottom);
-    let saved_wrap_due = !saved.wrap_due || saved.column == COLUMNS;
     let changed = state
         .changed
         .iter()
         .all(|&row| 1 <= row && row <= state.rows);
 
-    rows && on_page(cursor)
+    let whole_page = rows
+        && on_page(cursor)
         && margins
-        && wrap_due
+        && may_wrap(cursor)
         && origin
         && on_page(saved)
-        && saved_wrap_due
-        && state.parser.is_whole()
-        && changed
+        && may_have_wrapped(saved)
+        && changed;
+    // Also where there is no line.
+    let whole_line = in_line(&line.cursor)
+        && may_wrap(&line.cursor)
+        && in_line(&line.saved.cursor)
+        && may_have_wrapped(&line.saved.cursor)
+        && (!line.active || line.exists);
+
+    whole_page && whole_line && state.parser.is_whole()
 }

@@ -1,6 +1,6 @@
 //! Commands and what they wrote, in words.
 
-use crate::script::{Command, VIEW_BYTES};
+use crate::script::{Command, VIEW_BYTES, VIEW_LINE};
 
 pub fn command_in_words(command: &Command) -> String {
     let Command { letter, a, b, .. } = command;
@@ -19,6 +19,10 @@ pub fn command_in_words(command: &Command) -> String {
         b'B' => format!("B: field {a} is {b}"),
         b'Q' => format!("Q: parser {:02X?}", command.following),
         b'V' => "V: view of the state".to_string(),
+        b'M' => format!("M: lend {a} words of the line"),
+        b'I' => format!("I: word {a} of the line is {b:04X}"),
+        b'D' => "D: line".to_string(),
+        b'O' => format!("O: row {a} of what is active"),
         _ => format!("{}", *letter as char),
     }
 }
@@ -55,20 +59,25 @@ pub fn answer_in_words(bytes: &[u8], length: usize) -> String {
                 number(4)
             )
         }
-        [b'A', answer, set @ .., count] if set.len() == 8 => {
+        [b'A', answer, set @ .., count, line_changed] if set.len() == 8 => {
             let rows: Vec<usize> = (0..64)
                 .filter(|row| set[row / 8] >> (row % 8) & 1 == 1)
                 .map(|row| row + 1)
                 .collect();
-            format!("answer {answer}, rows {rows:?}, number {count}")
+            format!("answer {answer}, rows {rows:?}, number {count}, line changed {line_changed}")
         }
         [b'R', answer, _, _] => format!("answer {answer}, word {:04X}", number(2)),
         [b'P', ..] => "a page".to_string(),
+        [b'D', ..] => "a line".to_string(),
+        [b'O', answer, count, ..] => format!("answer {answer}, {count} words"),
         [b'T', ..] => format!("a text of {} bytes", number(1)),
         [b'V', fields @ ..] if fields.len() == VIEW_BYTES => {
             let [row, column, wrap_due, top, bottom] = [1, 2, 3, 4, 5].map(|n| fields[n]);
+            let [exists, active, line_column, line_due] =
+                [0, 1, 2, 3].map(|n| fields[VIEW_LINE + n]);
             format!(
                 "cursor {row},{column}, wrap due {wrap_due}, margins {top} and {bottom}; \
+                 line {exists}, active {active}, column {line_column}, wrap due {line_due}; \
                  all fields {fields:?}"
             )
         }

@@ -36,8 +36,30 @@ fn each_capture_gives_its_text() {
             }
             let found = String::from_utf8(text(&console.page)).unwrap();
             assert_eq!(found, expected, "{name} in pieces of {length}");
+            let found = String::from_utf8(text(&console.status_line)).unwrap();
+            assert_eq!(found, line_of(&name), "{name} in pieces of {length}");
         }
     }
+}
+
+/// The status line's text, as one line: that of NAME.line.txt, or else blank.
+fn line_of(name: &str) -> String {
+    let file = directory().join(format!("{name}.line.txt"));
+    std::fs::read_to_string(file).unwrap_or("\n".to_string())
+}
+
+/// A text of the line belongs to a capture, and at least one has something in it.
+#[test]
+fn each_line_has_its_capture() {
+    let mut written = 0;
+    for entry in std::fs::read_dir(directory()).unwrap() {
+        let file = entry.unwrap().file_name().into_string().unwrap();
+        if let Some(name) = file.strip_suffix(".line.txt") {
+            assert!(names().contains(name), "{name}");
+            written += (line_of(name).trim() != "") as usize;
+        }
+    }
+    assert!(written > 0);
 }
 
 /// The plan has the same captures, and nothing is missing.

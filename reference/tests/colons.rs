@@ -247,7 +247,8 @@ fn no_reply_and_no_room() {
         for room in 0..=13 {
             let mut c = Console::new();
             let mut reply = vec![0xEE; room];
-            let (answer, read, replied, state) = feed(&c.state, &mut c.page, query, &mut reply);
+            let (answer, read, replied, state) =
+                feed(&c.state, &mut c.page, &mut c.status_line, query, &mut reply);
             assert_eq!((answer, read, replied), (0, query.len(), 0));
             assert_eq!(state, c.state);
             assert!(reply.iter().all(|&byte| byte == 0xEE));

@@ -47,9 +47,12 @@ fn column_1(c: &Console) -> String {
 fn start_blanks_and_makes_fresh() {
     for rows in [24, 36, 48] {
         let mut page = vec![0xABCD; 80 * rows];
-        let (answer, state) = start(rows, &mut page);
+        let mut line = [0xABCD; 80];
+        let (answer, state) = start(rows, &mut page, &mut line);
         assert_eq!(answer, 0);
         assert!(page.iter().all(|&w| w == 0x20));
+        assert_eq!(line, [0x20; 80]);
+        assert_eq!(state.line, Line::FRESH);
         assert!(is_whole(&state));
         assert_eq!(state.rows, rows);
         assert_eq!((state.top, state.bottom), (1, rows));
@@ -72,7 +75,8 @@ fn start_blanks_and_makes_fresh() {
 #[test]
 fn start_refuses_1_before_2_and_gives_the_fresh_24_row_state() {
     let mut fine = vec![0; 80 * 24];
-    let fresh = start(24, &mut fine).1;
+    let mut line = [0xABCD; 80];
+    let fresh = start(24, &mut fine, &mut line).1;
     for (rows, cells, answer) in [
         (0, 0, 1),
         (25, 80 * 25, 1),
@@ -84,8 +88,10 @@ fn start_refuses_1_before_2_and_gives_the_fresh_24_row_state() {
         (48, 0, 2),
     ] {
         let mut page = vec![0xABCD; cells];
-        assert_eq!(start(rows, &mut page), (answer, fresh.clone()));
+        let mut line = [0xABCD; 80];
+        assert_eq!(start(rows, &mut page, &mut line), (answer, fresh.clone()));
         assert!(page.iter().all(|&w| w == 0xABCD));
+        assert_eq!(line, [0xABCD; 80]);
     }
 }
 
@@ -95,24 +101,36 @@ fn feed_refusals_change_nothing() {
     let mut reply = [7; 20];
     // 2: a page of another size.
     let mut short = vec![0x1234; 80 * 24 - 1];
-    let got = feed(&c.state, &mut short, b"x\x1B[c", &mut reply);
+    let got = feed(
+        &c.state,
+        &mut short,
+        &mut c.status_line,
+        b"x\x1B[c",
+        &mut reply,
+    );
     assert_eq!(got, (2, 0, 0, c.state.clone()));
     assert!(short.iter().all(|&w| w == 0x1234));
     assert_eq!(reply, [7; 20]);
     // 1 comes before 2.
     let mut broken = c.state.clone();
     broken.cursor.row = 25;
-    let got = feed(&broken, &mut short, b"x", &mut reply);
+    let got = feed(&broken, &mut short, &mut c.status_line, b"x", &mut reply);
     assert_eq!(got, (1, 0, 0, broken.clone()));
     let page = c.page.clone();
-    let got = feed(&broken, &mut c.page, b"x", &mut reply);
+    let got = feed(&broken, &mut c.page, &mut c.status_line, b"x", &mut reply);
     assert_eq!(got, (1, 0, 0, broken.clone()));
     assert_eq!(c.page, page);
     // Also with nothing to read.
-    assert_eq!(feed(&broken, &mut c.page, b"", &mut []).0, 1);
-    assert_eq!(feed(&c.state, &mut short, b"", &mut []).0, 2);
+    assert_eq!(
+        feed(&broken, &mut c.page, &mut c.status_line, b"", &mut []).0,
+        1
+    );
+    assert_eq!(
+        feed(&c.state, &mut short, &mut c.status_line, b"", &mut []).0,
+        2
+    );
     // Asking.
-    assert_eq!(ask(&broken), (1, vec![], 0, broken.clone()));
+    assert_eq!(ask(&broken), (1, vec![], 0, false, broken.clone()));
 }
 
 #[test]
@@ -315,12 +333,24 @@ fn answer_3_leaves_the_byte_unapplied() {
     // 9A in an open string, with too little room: the string stays open.
     let mut c = Console::fed(b"ok\x90abc");
     let mut reply = [0xEE; 7];
-    let (answer, read, replied, state) = feed(&c.state, &mut c.page, b"d\x9Ae", &mut reply);
+    let (answer, read, replied, state) = feed(
+        &c.state,
+        &mut c.page,
+        &mut c.status_line,
+        b"d\x9Ae",
+        &mut reply,
+    );
     assert_eq!((answer, read, replied), (3, 1, 0));
     assert_eq!(state.parser, Parser::String);
     assert_eq!(reply, [0xEE; 7]);
     let mut reply = [0xEE; 9];
-    let (answer, read, replied, state) = feed(&state, &mut c.page, b"\x9Ae", &mut reply);
+    let (answer, read, replied, state) = feed(
+        &state,
+        &mut c.page,
+        &mut c.status_line,
+        b"\x9Ae",
+        &mut reply,
+    );
     assert_eq!((answer, read, replied), (0, 2, 8));
     assert_eq!(&reply, b"\x1B[?64;6c\xEE");
     assert_eq!(state.parser, Parser::Ground);
@@ -332,16 +362,29 @@ fn answer_3_keeps_what_was_before_it() {
     let mut c = Console::new();
     let mut reply = [0xEE; 9];
     let input = b"A\x1B[5nB\x1B[6nC";
-    let (answer, read, replied, state) = feed(&c.state, &mut c.page, input, &mut reply);
+    let (answer, read, replied, state) =
+        feed(&c.state, &mut c.page, &mut c.status_line, input, &mut reply);
     // 4 bytes of 9 are used; the second reply needs 6.
     assert_eq!((answer, read, replied), (3, 9, 4));
     assert_eq!(&reply, b"\x1B[0n\xEE\xEE\xEE\xEE\xEE");
     assert_eq!(c.line(1), "AB");
     assert_eq!(state.cursor.column, 3);
     // Bytes without replies need no room at all.
-    let (answer, read, _, _) = feed(&c.state, &mut c.page, b"\x1B[0cxyz", &mut []);
+    let (answer, read, _, _) = feed(
+        &c.state,
+        &mut c.page,
+        &mut c.status_line,
+        b"\x1B[0cxyz",
+        &mut [],
+    );
     assert_eq!((answer, read), (3, 3));
-    let (answer, read, _, _) = feed(&c.state, &mut c.page, b"\x1B[1cxyz", &mut []);
+    let (answer, read, _, _) = feed(
+        &c.state,
+        &mut c.page,
+        &mut c.status_line,
+        b"\x1B[1cxyz",
+        &mut [],
+    );
     assert_eq!((answer, read), (0, 7));
 }
 

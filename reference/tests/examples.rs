@@ -52,17 +52,30 @@ fn example_6() {
     let mut c = Console::new();
     let page = c.page.clone();
     let mut reply = [0xEE; 5];
-    let (answer, read, replied, state) = feed(&c.state, &mut c.page, b"\x1B[6n", &mut reply);
+    let (answer, read, replied, state) = feed(
+        &c.state,
+        &mut c.page,
+        &mut c.status_line,
+        b"\x1B[6n",
+        &mut reply,
+    );
     assert_eq!((answer, read, replied), (3, 3, 0));
     assert_eq!(reply, [0xEE; 5]);
     assert_eq!(c.page, page);
     // The final alone, with room, is then answered.
     let mut more = [0xEE; 7];
-    let (answer, read, replied, after) = feed(&state, &mut c.page, b"n", &mut more);
+    let (answer, read, replied, after) =
+        feed(&state, &mut c.page, &mut c.status_line, b"n", &mut more);
     assert_eq!((answer, read, replied), (0, 1, 6));
     assert_eq!(&more, b"\x1B[1;1R\xEE");
     let mut reply = [0xEE; 6];
-    let (answer, read, replied, at_once) = feed(&c.state, &mut c.page, b"\x1B[6n", &mut reply);
+    let (answer, read, replied, at_once) = feed(
+        &c.state,
+        &mut c.page,
+        &mut c.status_line,
+        b"\x1B[6n",
+        &mut reply,
+    );
     assert_eq!((answer, read, replied), (0, 4, 6));
     assert_eq!(&reply, b"\x1B[1;1R");
     assert_eq!(after, at_once);
@@ -81,7 +94,8 @@ fn example_7() {
 fn example_8() {
     let mut c = Console::new();
     let page = c.page.clone();
-    let (answer, read, replied, state) = feed(&c.state, &mut c.page, b"", &mut []);
+    let (answer, read, replied, state) =
+        feed(&c.state, &mut c.page, &mut c.status_line, b"", &mut []);
     assert_eq!((answer, read, replied), (0, 0, 0));
     assert_eq!(state, c.state);
     assert_eq!(page, c.page);

@@ -1,7 +1,7 @@
 //! The page must not leak to the modem. Two whole states agree in all but the
-//! changed rows, over any two pages of the right length. After the same input
-//! with the same room, the answer, the number of bytes read, what is sent and all
-//! else of the state are equal.
+//! changed rows and the line's flag, over any two pages and lines of the right
+//! length. After the same input with the same room, the answer, the number of
+//! bytes read, what is sent and all else of the state are equal.
 
 mod common;
 use common::{any_words, Console};
@@ -29,15 +29,17 @@ struct Pair {
 }
 
 impl Pair {
-    /// The state with any changed rows, once over random words, and once over
-    /// others or a blank page.
+    /// The state with any changed rows and flag of the line, once over random
+    /// words, and once over others or a blank page and line.
     fn new(random: &mut Random, state: &State, blank: bool) -> Pair {
         let mut console = |blank: bool| {
             let mut console = Console::of(state.rows);
             console.state = state.clone();
             console.state.changed = any_rows(random, state.rows).into_iter().collect();
+            console.state.line.changed = random.percent(50);
             if !blank {
                 console.page = any_words(random, 80 * state.rows);
+                console.status_line = any_words(random, 80);
             }
             console
         };
@@ -76,13 +78,16 @@ impl Pair {
         }
     }
 
-    /// Other words in one of the pages, and other changed rows: they may be
-    /// anything before each feeding.
+    /// Other words in one of the pages and its line, and other changed rows and
+    /// another flag: they may be anything before each feeding.
     fn change_words(&mut self, random: &mut Random) {
         for _ in 0..40 {
             let place = random.below(self.other.page.len());
             self.other.page[place] = random.next() as u16;
+            let place = random.below(80);
+            self.other.status_line[place] = random.next() as u16;
         }
+        self.other.state.line.changed = random.percent(50);
         self.other.state.changed = any_rows(random, self.other.state.rows)
             .into_iter()
             .collect();
@@ -107,34 +112,55 @@ impl Pair {
     }
 }
 
-/// An asking, a reading or a refused call. A refused one may be given anything,
-/// and what it returns with answer 1 is thrown away.
+/// An asking, a reading, a row or a refused call. A refused one may be given
+/// anything, and what it returns with answer 1 is thrown away.
 fn call_between(random: &mut Random, console: &mut Console) {
     let rows = console.state.rows;
     let mut broken = console.state.clone();
     broken.bottom = broken.top;
     let length = random.pick(&[0, 80, 80 * rows - 1, 80 * rows + 80]);
     let mut wrong = any_words(random, length);
+    let mut wrong_line = any_words(random, length % 79);
     let mut reply = [0; 20];
-    match random.below(8) {
+    match random.below(10) {
         0..=2 => {
-            console.ask();
+            console.ask_both();
+        }
+        8 => {
+            let number = random.between(0, rows + 1);
+            row(&console.state, &console.page, &console.status_line, number);
+        }
+        9 => {
+            let page = &mut console.page;
+            let fed = feed(
+                &console.state,
+                page,
+                &mut wrong_line,
+                b"q\x1B[6n",
+                &mut reply,
+            );
+            assert_eq!(fed.0, 2);
+            console.state = fed.3;
         }
         3 => {
             let (row, column) = (random.between(0, rows + 1), random.between(0, 81));
             read_cell(&console.state, &console.page, row, column);
         }
         4 => {
-            let fed = feed(&console.state, &mut wrong, b"q\x1B[6n", &mut reply);
+            let line = &mut console.status_line;
+            let fed = feed(&console.state, &mut wrong, line, b"q\x1B[6n", &mut reply);
             assert_eq!(fed.0, 2);
             console.state = fed.3;
         }
         5 => {
-            let fed = feed(&broken, &mut console.page, b"\x1Bc\x1B[6n", &mut reply);
+            let Console {
+                page, status_line, ..
+            } = console;
+            let fed = feed(&broken, page, status_line, b"\x1Bc\x1B[6n", &mut reply);
             assert_eq!(fed.0, 1);
         }
         6 => assert_eq!(ask(&broken).0, 1),
-        _ => assert_eq!(start(rows, &mut wrong).0, 2),
+        _ => assert_eq!(start(rows, &mut wrong, &mut console.status_line).0, 2),
     }
 }
 
@@ -142,9 +168,12 @@ fn call_between(random: &mut Random, console: &mut Console) {
 #[derive(Default, Debug)]
 struct Seen {
     pairs: usize,
-    /// The pairs that ended with other pages, and with other changed rows.
+    /// The pairs that ended with other pages and lines, with other changed rows,
+    /// and with another flag of the line.
     other_pages: usize,
+    other_lines: usize,
     other_rows: usize,
+    other_flags: usize,
     replies: usize,
     no_room: usize,
 }
@@ -155,7 +184,9 @@ impl Seen {
         assert_eq!(one.replies, other.replies);
         self.pairs += 1;
         self.other_pages += (one.page != other.page) as usize;
+        self.other_lines += (one.status_line != other.status_line) as usize;
         self.other_rows += (one.state.changed != other.state.changed) as usize;
+        self.other_flags += (one.state.line.changed != other.state.line.changed) as usize;
         self.replies += pair.replies;
         self.no_room += pair.no_room;
     }
@@ -165,7 +196,9 @@ impl Seen {
     fn assert_many(&self, replies: usize, no_room: usize) {
         println!("{self:?}");
         assert!(self.other_pages * 10 > self.pairs * 8, "{self:?}");
+        assert!(self.other_lines * 10 > self.pairs * 8, "{self:?}");
         assert!(self.other_rows * 10 > self.pairs * 6, "{self:?}");
+        assert!(self.other_flags * 10 > self.pairs * 2, "{self:?}");
         assert!(self.replies > replies && self.no_room > no_room, "{self:?}");
     }
 }
@@ -304,6 +337,7 @@ fn calls_between_do_not_show() {
             other_rows += (pair.one.state.changed != pair.other.state.changed) as usize;
         }
         assert_eq!(pair.one.page, pair.other.page);
+        assert_eq!(pair.one.status_line, pair.other.status_line);
         assert_eq!(pair.one.replies, pair.other.replies);
         replies += pair.replies;
         no_room += pair.no_room;
@@ -367,7 +401,26 @@ fn any_parser(random: &mut Random) -> Parser {
     })
 }
 
-/// Any whole state; no changed rows.
+/// The status line of a state, that there is no line too.
+fn any_line(random: &mut Random) -> Line {
+    let exists = random.percent(70);
+    Line {
+        exists,
+        active: exists && random.percent(70),
+        cursor: any_cursor(random, 1),
+        saved: Saved {
+            cursor: any_cursor(random, 1),
+            rendition: any_rendition(random),
+            origin: false,
+            sets: any_sets(random),
+            protection: random.percent(50),
+            shift: any_shift(random),
+        },
+        changed: false,
+    }
+}
+
+/// Any whole state; nothing is noted as changed.
 fn any_state(random: &mut Random, rows: usize) -> State {
     let any = random.between(1, rows - 1);
     let (top, bottom) = random.pick(&[(1, rows), (5, 10), (any, rows), (1, any + 1)]);
@@ -398,6 +451,7 @@ fn any_state(random: &mut Random, rows: usize) -> State {
         },
         parser: any_parser(random),
         changed: BTreeSet::new(),
+        line: any_line(random),
     };
     match is_whole(&state) {
         true => state,
@@ -435,13 +489,17 @@ fn refused(pair: &mut Pair, answer: u8) {
         assert_eq!(pair.feed(bytes, room), (answer, 0));
     }
     for (now, then) in [(&pair.one, &before.one), (&pair.other, &before.other)] {
-        assert_eq!((&now.page, &now.state), (&then.page, &then.state));
+        assert_eq!(
+            (&now.page, &now.status_line),
+            (&then.page, &then.status_line)
+        );
+        assert_eq!(now.state, then.state);
         assert_eq!(now.replies, then.replies);
     }
 }
 
 /// Each spoils a state.
-const SPOILS: [fn(&mut State); 15] = [
+const SPOILS: [fn(&mut State); 22] = [
     |s| s.rows = 25,
     |s| s.rows = 0,
     |s| s.cursor.row = 0,
@@ -463,10 +521,17 @@ const SPOILS: [fn(&mut State); 15] = [
     |s| {
         s.changed.insert(s.rows + 1);
     },
+    |s| s.line.cursor.column = 0,
+    |s| s.line.cursor.column = 81,
+    |s| (s.line.cursor.wrap_due, s.line.cursor.column) = (true, 79),
+    |s| (s.line.cursor.wrap_due, s.cursor.wrap_due, s.autowrap) = (true, false, false),
+    |s| s.line.saved.cursor.column = 0,
+    |s| (s.line.saved.cursor.column, s.line.saved.cursor.wrap_due) = (79, true),
+    |s| (s.line.exists, s.line.active) = (false, true),
 ];
 
-/// Pages of wrong lengths, perhaps two; states that are not whole, over pages of
-/// any length.
+/// Pages and lines of wrong lengths, perhaps two; states that are not whole, over
+/// pages and lines of any length.
 #[test]
 fn what_is_refused_in_both_is_alike() {
     let mut random = Random::new(5);
@@ -482,6 +547,14 @@ fn what_is_refused_in_both_is_alike() {
                 refused(&mut pair, 2);
             }
         }
+        for one in [0, 1, 79, 81, 128] {
+            for other in [0, 79, 81, 160] {
+                let mut pair = right.clone();
+                pair.one.status_line = any_words(&mut random, one);
+                pair.other.status_line = any_words(&mut random, other);
+                refused(&mut pair, 2);
+            }
+        }
         for spoil in SPOILS {
             for blank in [true, false] {
                 let mut pair = Pair::new(&mut random, &state, blank);
@@ -491,6 +564,8 @@ fn what_is_refused_in_both_is_alike() {
                 let length = random.pick(&lengths);
                 pair.other.page = any_words(&mut random, length);
                 refused(&mut pair, 1);
+                pair.one.status_line = any_words(&mut random, 79);
+                refused(&mut pair, 1);
             }
         }
     }
@@ -498,11 +573,11 @@ fn what_is_refused_in_both_is_alike() {
 
 // ---- The comparison itself --------------------------------------------------
 
-/// Nothing but the changed rows may differ.
+/// Nothing but the changed rows and the line's flag may differ.
 #[test]
 fn another_state_is_noticed() {
     let state = State::fresh(24);
-    let changes: [fn(&mut State); 20] = [
+    let changes: [fn(&mut State); 26] = [
         |s| s.rows = 36,
         |s| s.cursor.row = 2,
         |s| s.cursor.column = 2,
@@ -523,6 +598,12 @@ fn another_state_is_noticed() {
         |s| s.shift = Some(Shift::G3),
         |s| s.saved.protection = true,
         |s| s.parser = Parser::String,
+        |s| s.line.exists = true,
+        |s| s.line.active = true,
+        |s| s.line.cursor.column = 2,
+        |s| s.line.cursor.wrap_due = true,
+        |s| s.line.saved.cursor.column = 2,
+        |s| s.line.saved.shift = Some(Shift::G2),
     ];
     for change in changes {
         let mut other = state.clone();
@@ -531,6 +612,7 @@ fn another_state_is_noticed() {
     }
     let mut other = state.clone();
     other.changed.extend([1, 7]);
+    other.line.changed = true;
     assert!(state != other && agree(&state, &other) && agree(&other, &state));
 }
 

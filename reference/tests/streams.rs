@@ -19,6 +19,7 @@ fn cutting_makes_no_difference() {
             single.more(&[*byte]);
         }
         assert_eq!(single.page, whole.page);
+        assert_eq!(single.status_line, whole.status_line);
         assert_eq!(single.state, whole.state);
         assert_eq!(single.replies, whole.replies);
 
@@ -34,12 +35,13 @@ fn cutting_makes_no_difference() {
             rest = &rest[read..];
         }
         assert_eq!(pieces.page, whole.page);
+        assert_eq!(pieces.status_line, whole.status_line);
         assert_eq!(pieces.state, whole.state);
         assert_eq!(pieces.replies, whole.replies);
     }
 }
 
-/// Every row that differs between two askings is reported.
+/// Every row that differs between two askings is reported, and so is the line.
 #[test]
 fn no_change_is_missed() {
     for seed in 100..160 {
@@ -48,8 +50,10 @@ fn no_change_is_missed() {
         let mut c = Console::of(rows);
         for piece in bytes.chunks(37) {
             let before = c.page.clone();
+            let line = c.status_line.clone();
             c.more(piece);
-            let reported = c.ask();
+            let (reported, line_changed) = c.ask_both();
+            assert!(line_changed || c.status_line == line);
             for row in 1..=rows {
                 let cells = 80 * (row - 1)..80 * row;
                 if before[cells.clone()] != c.page[cells] {
@@ -60,6 +64,38 @@ fn no_change_is_missed() {
     }
 }
 
+/// The line is noted exactly if a byte changed a cell of it since the last asking.
+/// (On the line the first of two steps changes none.) A copy that takes the line
+/// where it is noted equals it.
+#[test]
+fn the_lines_flag_is_exact() {
+    let mut counts = [0; 2];
+    for seed in 300..360 {
+        let mut random = Random::new(seed);
+        let mut c = Console::of([24, 36, 48][seed as usize % 3]);
+        let mut copy = c.status_line.clone();
+        let mut changed = false;
+        c.more(b"\x1B[1$~\x1B[1$}");
+        for byte in stream(seed, 3_000) {
+            let before = c.status_line.clone();
+            c.more(&[byte]);
+            changed |= c.status_line != before;
+            if random.percent(5) {
+                let (_, noted) = c.ask_both();
+                assert_eq!(noted, changed);
+                if noted {
+                    copy.clone_from(&c.status_line);
+                }
+                assert_eq!(copy, c.status_line);
+                counts[noted as usize] += 1;
+                changed = false;
+            }
+        }
+    }
+    println!("{counts:?}");
+    assert!(counts.iter().all(|&count| count > 500), "{counts:?}");
+}
+
 /// Any words found in the cells, unused bits and all.
 #[test]
 fn any_word_is_accepted() {
@@ -67,6 +103,7 @@ fn any_word_is_accepted() {
         let mut random = Random::new(seed);
         let mut c = Console::new();
         c.page = any_words(&mut random, 80 * 24);
+        c.status_line = any_words(&mut random, 80);
         for piece in stream(seed, 4_000).chunks(50) {
             c.more(piece);
         }
@@ -77,13 +114,14 @@ fn any_word_is_accepted() {
 /// The streams reach what they are for.
 #[test]
 fn streams_reach_the_edges() {
-    let mut seen = [0usize; 41];
+    let mut seen = [0usize; 53];
     for seed in 0..240 {
         let rows = [24, 36, 48][seed as usize % 3];
         let mut c = Console::of(rows);
         for byte in stream(seed, 3_000) {
             let before = c.state.clone();
             let page = c.page.clone();
+            let status = c.status_line.clone();
             let replies = c.replies.len();
             c.more(&[byte]);
             let s = &c.state;
@@ -157,7 +195,20 @@ fn streams_reach_the_edges() {
                 ends(b"Hfr"),
                 ends(b"hl"),
                 ends(b"xzvt"),
-                colons && before.cursor.wrap_due,
+                colons && before.of_active().cursor.wrap_due,
+                // The status line.
+                s.line.active,
+                s.line.exists && !s.line.active,
+                s.line.active != before.line.active,
+                s.line.active && s.line.cursor.wrap_due,
+                s.line.active && s.line.cursor.wrap_due && s.cursor.wrap_due,
+                !s.line.active && s.line.cursor.wrap_due,
+                before.line.cursor.wrap_due && s.line.cursor.column == 2,
+                c.status_line != status,
+                s.line.active && inner && s.origin,
+                s.line.active && restored,
+                s.line.active && c.replies.len() > replies,
+                s.line.saved.cursor.column > 1,
             ];
             for (count, fact) in seen.iter_mut().zip(facts) {
                 *count += fact as usize;

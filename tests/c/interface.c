@@ -3,8 +3,9 @@
  *
  *     interface CAPTURE...
  *
- * A CAPTURE is a file's name without its ending: CAPTURE.bytes must give CAPTURE.txt. Exits with 0 and the number
- * of checks, or with 1 at the first that fails.
+ * A CAPTURE is a file's name without its ending: CAPTURE.bytes must give CAPTURE.txt and, on the status line,
+ * CAPTURE.line.txt, or nothing where there is no such file. Exits with 0 and the number of checks, or with 1 at the
+ * first that fails.
  */
 #include <stdio.h>
 #include <stdlib.h>
@@ -14,6 +15,7 @@
 
 #define GUARD 64
 #define MAX_CELLS (PANKHOLIM_CELLS(PANKHOLIM_MAX_ROWS) + 160)
+#define MAX_LINE (PANKHOLIM_LINE_CELLS + 160)
 #define MAX_BYTES 16384
 #define MAX_FILE 1048576
 
@@ -24,15 +26,20 @@ static struct {
     uint8_t after[GUARD];
 } record;
 static uint16_t words[GUARD + MAX_CELLS + GUARD];
+static uint16_t line_words[GUARD + MAX_LINE + GUARD];
 static uint8_t reply_bytes[GUARD + MAX_BYTES + GUARD];
 static uint8_t text_bytes[GUARD + MAX_BYTES + GUARD];
 
 static uint16_t *const page = words + GUARD;
+static uint16_t *const line = line_words + GUARD;
 static uint8_t *const reply = reply_bytes + GUARD;
 static uint8_t *const text = text_bytes + GUARD;
 
 /* The numbers of rows that a page may have. */
 static const size_t sizes[] = { 24, 36, 48 };
+
+/* How many bytes a record has. */
+enum { RECORD = 120 };
 
 /* What the last feeding gave. */
 static size_t read_count, replied;
@@ -41,11 +48,11 @@ static unsigned long checks;
 
 #define CHECK(what) check((what), #what, __LINE__)
 
-static void check(int holds, const char *what, int line)
+static void check(int holds, const char *what, int number)
 {
     checks++;
     if (!holds) {
-        printf("interface.c:%d: not so: %s\n", line, what);
+        printf("interface.c:%d: not so: %s\n", number, what);
         exit(1);
     }
 }
@@ -76,6 +83,8 @@ static void set_up(void)
     memset(&record.terminal, 0, sizeof record.terminal);
     for (i = 0; i < sizeof words / sizeof words[0]; i++)
         words[i] = WORD_GUARD;
+    for (i = 0; i < sizeof line_words / sizeof line_words[0]; i++)
+        line_words[i] = WORD_GUARD;
     memset(reply_bytes, BYTE_GUARD, sizeof reply_bytes);
     memset(text_bytes, BYTE_GUARD, sizeof text_bytes);
 }
@@ -102,6 +111,12 @@ static int page_is_left(size_t cells)
            && are_guards((const uint8_t *)(page + cells), (MAX_CELLS - cells + GUARD) * sizeof(uint16_t));
 }
 
+static int line_is_left(size_t cells)
+{
+    return are_guards((const uint8_t *)line_words, GUARD * sizeof(uint16_t))
+           && are_guards((const uint8_t *)(line + cells), (MAX_LINE - cells + GUARD) * sizeof(uint16_t));
+}
+
 static int record_guards_are_left(void)
 {
     return are_guards(record.before, GUARD) && are_guards(record.after, GUARD);
@@ -109,13 +124,19 @@ static int record_guards_are_left(void)
 
 /* ---- the calls, each on the guarded buffers */
 
-static uint8_t start(size_t rows, size_t cells)
+static uint8_t start_on(size_t rows, size_t cells, size_t line_cells)
 {
-    uint8_t answer = pankholim_start(&record.terminal, rows, page, cells);
+    uint8_t answer = pankholim_start(&record.terminal, rows, page, cells, line, line_cells);
 
     CHECK(record_guards_are_left());
     CHECK(page_is_left(cells));
+    CHECK(line_is_left(line_cells));
     return answer;
+}
+
+static uint8_t start(size_t rows, size_t cells)
+{
+    return start_on(rows, cells, PANKHOLIM_LINE_CELLS);
 }
 
 static void start_well(size_t rows)
@@ -124,18 +145,25 @@ static void start_well(size_t rows)
     CHECK(start(rows, PANKHOLIM_CELLS(rows)) == PANKHOLIM_DONE);
 }
 
-static uint8_t feed_bytes(size_t cells, const void *input, size_t length, size_t room)
+static uint8_t feed_on(size_t cells, size_t line_cells, const void *input, size_t length, size_t room)
 {
     uint8_t answer;
 
     memset(reply_bytes, BYTE_GUARD, sizeof reply_bytes);
     read_count = replied = 12345;
-    answer = pankholim_feed(&record.terminal, page, cells, input, length, reply, room, &read_count, &replied);
+    answer = pankholim_feed(&record.terminal, page, cells, line, line_cells, input, length, reply, room, &read_count,
+                            &replied);
     CHECK(read_count <= length && replied <= room);
     CHECK(is_left(reply_bytes, replied));
     CHECK(page_is_left(cells));
+    CHECK(line_is_left(line_cells));
     CHECK(record_guards_are_left());
     return answer;
+}
+
+static uint8_t feed_bytes(size_t cells, const void *input, size_t length, size_t room)
+{
+    return feed_on(cells, PANKHOLIM_LINE_CELLS, input, length, room);
 }
 
 static uint8_t feed(size_t cells, const char *input, size_t room)
@@ -143,23 +171,63 @@ static uint8_t feed(size_t cells, const char *input, size_t room)
     return feed_bytes(cells, input, strlen(input), room);
 }
 
-static uint8_t ask(uint64_t *rows, uint32_t *count)
+static uint8_t ask(uint64_t *rows, uint32_t *count, uint8_t *flag)
 {
     uint8_t answer;
 
     *rows = 12345;
     *count = 12345;
-    answer = pankholim_ask(&record.terminal, rows, count);
+    *flag = 123;
+    answer = pankholim_ask(&record.terminal, rows, count, flag);
     CHECK(record_guards_are_left());
     return answer;
 }
 
-static int asks(uint64_t rows, uint32_t count)
+static int asks_with_line(uint64_t rows, uint32_t count, uint8_t flag)
 {
     uint64_t changed;
     uint32_t many;
+    uint8_t found;
 
-    return ask(&changed, &many) == PANKHOLIM_DONE && changed == rows && many == count;
+    return ask(&changed, &many, &found) == PANKHOLIM_DONE && changed == rows && many == count && found == flag;
+}
+
+/* The line has not changed. */
+static int asks(uint64_t rows, uint32_t count)
+{
+    return asks_with_line(rows, count, 0);
+}
+
+/* A row of the active display; nothing that is lent changes. */
+static uint8_t find_row(size_t cells, size_t line_cells, size_t row, pankholim_part *part)
+{
+    static uint16_t page_before[sizeof words / sizeof words[0]], line_before[sizeof line_words / sizeof line_words[0]];
+    pankholim_terminal before = record.terminal;
+    uint8_t answer;
+
+    memcpy(page_before, words, sizeof words);
+    memcpy(line_before, line_words, sizeof line_words);
+    memset(part, BYTE_GUARD, sizeof *part);
+    answer = pankholim_row(record.terminal, page, cells, line, line_cells, row, part);
+    CHECK(memcmp(&before, &record.terminal, sizeof before) == 0 && record_guards_are_left());
+    CHECK(memcmp(page_before, words, sizeof words) == 0 && memcmp(line_before, line_words, sizeof line_words) == 0);
+    CHECK(part->length == (answer == PANKHOLIM_DONE ? PANKHOLIM_COLUMNS : 0));
+    return answer;
+}
+
+/* Is the row handed back where it lies? */
+static int row_is(size_t cells, size_t row, const uint16_t *at)
+{
+    pankholim_part part;
+
+    return find_row(cells, PANKHOLIM_LINE_CELLS, row, &part) == PANKHOLIM_DONE && part.cells == at;
+}
+
+static int row_is_refused(size_t cells, size_t line_cells, size_t row, uint8_t answer)
+{
+    pankholim_part part;
+
+    return find_row(cells, line_cells, row, &part) == answer;
 }
 
 static uint8_t read_word(size_t cells, size_t row, size_t column, uint16_t *word)
@@ -204,24 +272,30 @@ static int replied_is(const char *expected)
 
 /* ---- starting */
 
-static int all_blank(size_t cells)
+static int are_blank(const uint16_t *cells, size_t length)
 {
     size_t i;
 
-    for (i = 0; i < cells; i++)
-        if (page[i] != PANKHOLIM_BLANK)
+    for (i = 0; i < length; i++)
+        if (cells[i] != PANKHOLIM_BLANK)
             return 0;
     return 1;
 }
 
 /* A start that must be refused: it leaves all that it was lent. */
-static void check_refused_start(size_t rows, size_t cells, uint8_t answer)
+static void check_refused_start_on(size_t rows, size_t cells, size_t line_cells, uint8_t answer)
 {
     pankholim_terminal before = record.terminal;
 
-    CHECK(start(rows, cells) == answer);
+    CHECK(start_on(rows, cells, line_cells) == answer);
     CHECK(page_is_left(0));
+    CHECK(line_is_left(0));
     CHECK(memcmp(&before, &record.terminal, sizeof before) == 0);
+}
+
+static void check_refused_start(size_t rows, size_t cells, uint8_t answer)
+{
+    check_refused_start_on(rows, cells, PANKHOLIM_LINE_CELLS, answer);
 }
 
 static void test_start(void)
@@ -233,7 +307,7 @@ static void test_start(void)
         memset(&record.terminal, rows % 2 == 0 ? 0 : BYTE_GUARD, sizeof record.terminal);
         if (rows == 24 || rows == 36 || rows == 48) {
             CHECK(start(rows, PANKHOLIM_CELLS(rows)) == PANKHOLIM_DONE);
-            CHECK(all_blank(PANKHOLIM_CELLS(rows)));
+            CHECK(are_blank(page, PANKHOLIM_CELLS(rows)) && are_blank(line, PANKHOLIM_LINE_CELLS));
             CHECK(asks(0, 0));
         } else {
             check_refused_start(rows, 1920, PANKHOLIM_BROKEN);
@@ -277,18 +351,39 @@ static void test_start_on_wrong_pages(void)
     check_refused_start(255, 4000, PANKHOLIM_BROKEN);
 }
 
+/* Lengths of a line that are not its length. */
+static const size_t wrong_lines[] = { 0, 1, 40, 79, 81, 160, MAX_LINE };
+
+enum { WRONG_LINES = sizeof wrong_lines / sizeof wrong_lines[0] };
+
+static void test_start_on_wrong_lines(void)
+{
+    size_t i, j;
+
+    for (i = 0; i < 3; i++)
+        for (j = 0; j < WRONG_LINES; j++) {
+            set_up();
+            check_refused_start_on(sizes[i], PANKHOLIM_CELLS(sizes[i]), wrong_lines[j], PANKHOLIM_WRONG_SIZE);
+            check_refused_start_on(sizes[i], 80, wrong_lines[j], PANKHOLIM_WRONG_SIZE);
+            /* 1 comes first. */
+            check_refused_start_on(25, 2000, wrong_lines[j], PANKHOLIM_BROKEN);
+            CHECK(start_on(sizes[i], PANKHOLIM_CELLS(sizes[i]), 80) == PANKHOLIM_DONE);
+        }
+}
+
 /* A terminal goes on where it was after refused starts. */
 static void test_refused_starts_of_a_terminal(void)
 {
-    static uint16_t other[80];
+    static uint16_t other[80], other_line[80];
     pankholim_terminal before;
 
     start_well(36);
     CHECK(feed(2880, "Hi\033[5", 0) == PANKHOLIM_DONE);
     before = record.terminal;
-    CHECK(pankholim_start(&record.terminal, 25, other, 80) == PANKHOLIM_BROKEN);
-    CHECK(pankholim_start(&record.terminal, 24, other, 80) == PANKHOLIM_WRONG_SIZE);
+    CHECK(pankholim_start(&record.terminal, 25, other, 80, other_line, 80) == PANKHOLIM_BROKEN);
+    CHECK(pankholim_start(&record.terminal, 24, other, 80, other_line, 80) == PANKHOLIM_WRONG_SIZE);
     CHECK(start(24, 2880) == PANKHOLIM_WRONG_SIZE);
+    CHECK(start_on(36, 2880, 81) == PANKHOLIM_WRONG_SIZE);
     CHECK(memcmp(&before, &record.terminal, sizeof before) == 0);
     CHECK(feed(2880, "n!", 4) == PANKHOLIM_DONE && replied_is("\033[0n"));
     CHECK(reads(2880, 1, 2, 'i') && reads(2880, 1, 3, '!') && asks(1, 1));
@@ -303,15 +398,18 @@ static void check_broken(void)
     uint64_t rows;
     uint32_t count;
     uint16_t word;
+    uint8_t flag;
 
     CHECK(feed(1920, "A\033[6n", 11) == PANKHOLIM_BROKEN && read_count == 0 && replied == 0);
     CHECK(feed(1920, "", 0) == PANKHOLIM_BROKEN && read_count == 0 && replied == 0);
     CHECK(feed(7, "A", 11) == PANKHOLIM_BROKEN && read_count == 0 && replied == 0);
-    CHECK(ask(&rows, &count) == PANKHOLIM_BROKEN && rows == 0 && count == 0);
+    CHECK(feed_on(1920, 79, "A", 1, 11) == PANKHOLIM_BROKEN && read_count == 0 && replied == 0);
+    CHECK(ask(&rows, &count, &flag) == PANKHOLIM_BROKEN && rows == 0 && count == 0 && flag == 0);
+    CHECK(row_is_refused(1920, 80, 1, PANKHOLIM_BROKEN) && row_is_refused(7, 0, 0, PANKHOLIM_BROKEN));
     CHECK(read_word(1920, 1, 1, &word) == PANKHOLIM_BROKEN && word == PANKHOLIM_BLANK);
     CHECK(read_word(7, 0, 81, &word) == PANKHOLIM_BROKEN && word == PANKHOLIM_BLANK);
     CHECK(cursor_is(PANKHOLIM_BROKEN, 0, 0, 0, 0));
-    CHECK(page_is_left(0));
+    CHECK(page_is_left(0) && line_is_left(0));
     CHECK(memcmp(&before, &record.terminal, sizeof before) == 0);
 }
 
@@ -334,13 +432,17 @@ static int check_any_record(void)
     uint32_t count;
     uint16_t word;
     size_t row, column;
-    uint8_t wrap, shown, read = cursor(&row, &column, &wrap, &shown);
+    pankholim_part part;
+    uint8_t flag, wrap, shown, read = cursor(&row, &column, &wrap, &shown);
+    uint8_t found = find_row(1920, PANKHOLIM_LINE_CELLS, 1, &part);
     uint8_t answer = feed(1920, "A\033[6n", 11);
     int refused = answer == PANKHOLIM_BROKEN || answer == PANKHOLIM_WRONG_SIZE;
 
     CHECK(refused || answer == PANKHOLIM_DONE);
-    CHECK(!refused || (page_is_left(0) && memcmp(&before, &record.terminal, sizeof before) == 0));
-    CHECK(ask(&rows, &count) == (answer == PANKHOLIM_BROKEN ? PANKHOLIM_BROKEN : PANKHOLIM_DONE));
+    CHECK(found == answer && (refused || part.cells == page || part.cells == line));
+    CHECK(!refused || (page_is_left(0) && line_is_left(0) && memcmp(&before, &record.terminal, sizeof before) == 0));
+    CHECK(ask(&rows, &count, &flag) == (answer == PANKHOLIM_BROKEN ? PANKHOLIM_BROKEN : PANKHOLIM_DONE));
+    CHECK(answer == PANKHOLIM_BROKEN ? flag == 0 : flag <= 1);
     CHECK(read_word(1920, 1, 1, &word) == (refused ? answer : PANKHOLIM_DONE));
     CHECK(read == (answer == PANKHOLIM_BROKEN ? PANKHOLIM_BROKEN : PANKHOLIM_DONE));
     if (read == PANKHOLIM_BROKEN)
@@ -398,7 +500,9 @@ static void test_wrong_pages(void)
         CHECK(feed(lengths[i], "", 0) == PANKHOLIM_WRONG_SIZE && read_count == 0 && replied == 0);
         CHECK(read_word(lengths[i], 1, 1, &word) == PANKHOLIM_WRONG_SIZE && word == PANKHOLIM_BLANK);
         CHECK(read_word(lengths[i], 0, 0, &word) == PANKHOLIM_WRONG_SIZE && word == PANKHOLIM_BLANK);
-        CHECK(page_is_left(0));
+        CHECK(row_is_refused(lengths[i], 80, 1, PANKHOLIM_WRONG_SIZE));
+        CHECK(row_is_refused(lengths[i], 80, 0, PANKHOLIM_WRONG_SIZE));
+        CHECK(page_is_left(0) && are_blank(line, PANKHOLIM_LINE_CELLS));
         CHECK(memcmp(&before, &record.terminal, sizeof before) == 0);
     }
     /* The sequence that was cut before the refusals goes on. */
@@ -707,24 +811,35 @@ static void test_version(void)
 
 /* ---- the page as text */
 
-static uint8_t write_text(size_t cells, size_t room, size_t *length)
+static uint8_t write_text_of(const uint16_t *from, size_t cells, size_t room, size_t *length)
 {
     uint8_t answer;
 
     memset(text_bytes, BYTE_GUARD, sizeof text_bytes);
     *length = 12345;
-    answer = pankholim_write_text(page, cells, text, room, length);
+    answer = pankholim_write_text(from, cells, text, room, length);
     CHECK(is_left(text_bytes, answer == PANKHOLIM_DONE ? *length : 0));
     return answer;
 }
 
-static int text_is(const char *expected, size_t cells)
+static uint8_t write_text(size_t cells, size_t room, size_t *length)
+{
+    return write_text_of(page, cells, room, length);
+}
+
+static int text_of_is(const uint16_t *from, size_t cells, const char *expected)
 {
     size_t length = strlen(expected);
     size_t written;
 
-    return pankholim_text_len(page, cells) == length && write_text(cells, length, &written) == PANKHOLIM_DONE
-           && written == length && memcmp(text, expected, length) == 0;
+    return pankholim_text_len(from, cells) == length
+           && write_text_of(from, cells, length, &written) == PANKHOLIM_DONE && written == length
+           && memcmp(text, expected, length) == 0;
+}
+
+static int text_is(const char *expected, size_t cells)
+{
+    return text_of_is(page, cells, expected);
 }
 
 static void test_text(void)
@@ -767,31 +882,369 @@ static void test_text_of_every_word(void)
     }
 }
 
+/* ---- the status line */
+
+/* Where the record has what is the line's (crates/record/src/lib.rt), and autowrap. */
+enum {
+    AUTOWRAP = 61,
+    LINE_PRESENT = 96, LINE_ACTIVE, LINE_COLUMN, LINE_WRAP,
+    LINE_SAVED_COLUMN, LINE_SAVED_WRAP, LINE_SAVED_RENDITION,
+    LINE_SAVED_SETS = 106, LINE_SAVED_PROTECTED = 112, LINE_SAVED_SHIFT,
+    LINE_CHANGED, UNUSED
+};
+
+#define ON_LINE "\033[1$~\033[1$}"
+#define ON_PAGE "\033[$}"
+
+/* Does the line begin with this text, in plain ASCII, and has it only blank cells after that? */
+static int line_holds(const char *expected)
+{
+    size_t length = strlen(expected), i;
+
+    for (i = 0; i < length; i++)
+        if (line[i] != (uint8_t)expected[i])
+            return 0;
+    return are_blank(line + length, PANKHOLIM_LINE_CELLS - length);
+}
+
+/* Which display is active? */
+static int is_on_page(void)
+{
+    return row_is(1920, 1, page) && row_is(1920, 24, page + PANKHOLIM_INDEX(24, 1));
+}
+
+static int is_on_line(void)
+{
+    return row_is(1920, 1, line) && row_is_refused(1920, 80, 2, PANKHOLIM_OFF_PAGE);
+}
+
+/* What refused feedings and findings of rows leave, whichever display is active. */
+static void check_wrong_lines(const char *before)
+{
+    static uint16_t page_before[1920];
+    pankholim_terminal terminal;
+    size_t i, j;
+
+    start_well(24);
+    CHECK(feed(1920, "Hi", 0) == PANKHOLIM_DONE && feed(1920, before, 0) == PANKHOLIM_DONE);
+    CHECK(feed(1920, "Ho\033[5", 0) == PANKHOLIM_DONE);
+    terminal = record.terminal;
+    memcpy(page_before, page, sizeof page_before);
+    for (i = 0; i < WRONG_LINES; i++) {
+        for (j = 0; j < MAX_LINE; j++)
+            line[j] = WORD_GUARD;
+        CHECK(feed_on(1920, wrong_lines[i], "nA", 2, 11) == PANKHOLIM_WRONG_SIZE && read_count == 0 && replied == 0);
+        CHECK(feed_on(1920, wrong_lines[i], "", 0, 0) == PANKHOLIM_WRONG_SIZE && read_count == 0 && replied == 0);
+        CHECK(row_is_refused(1920, wrong_lines[i], 1, PANKHOLIM_WRONG_SIZE));
+        CHECK(row_is_refused(1920, wrong_lines[i], 0, PANKHOLIM_WRONG_SIZE));
+        CHECK(row_is_refused(1919, wrong_lines[i], 1, PANKHOLIM_WRONG_SIZE));
+        CHECK(row_is_refused(1919, 80, 1, PANKHOLIM_WRONG_SIZE));
+        CHECK(line_is_left(0) && memcmp(page_before, page, sizeof page_before) == 0);
+        CHECK(memcmp(&terminal, &record.terminal, sizeof terminal) == 0);
+    }
+    /* The sequence that was cut before the refusals goes on. */
+    CHECK(feed(1920, "n", 4) == PANKHOLIM_DONE && replied_is("\033[0n"));
+}
+
+static void test_wrong_lines(void)
+{
+    check_wrong_lines("");
+    CHECK(asks(1, 1));
+    check_wrong_lines(ON_LINE);
+    CHECK(asks_with_line(1, 1, 1));
+}
+
+/* Rows of the display that is active, handed back where they lie. */
+static void test_row(void)
+{
+    static const size_t off[] = { 0, 49, 81, 256, 257, 65537, ((size_t)1 << 32) + 1, (size_t)1 << 63, (size_t)-1 };
+    size_t i, j, row;
+
+    for (i = 0; i < 3; i++) {
+        size_t cells = PANKHOLIM_CELLS(sizes[i]);
+
+        start_well(sizes[i]);
+        for (row = 1; row <= sizes[i]; row++)
+            CHECK(row_is(cells, row, page + PANKHOLIM_INDEX(row, 1)));
+        CHECK(row_is_refused(cells, 80, sizes[i] + 1, PANKHOLIM_OFF_PAGE));
+        for (j = 0; j < sizeof off / sizeof off[0]; j++)
+            CHECK(row_is_refused(cells, 80, off[j], PANKHOLIM_OFF_PAGE));
+        CHECK(feed(cells, ON_LINE "up", 0) == PANKHOLIM_DONE && row_is(cells, 1, line) && line_holds("up"));
+        for (row = 2; row <= sizes[i] + 1; row++)
+            CHECK(row_is_refused(cells, 80, row, PANKHOLIM_OFF_PAGE));
+        for (j = 0; j < sizeof off / sizeof off[0]; j++)
+            CHECK(row_is_refused(cells, 80, off[j], PANKHOLIM_OFF_PAGE));
+        CHECK(feed(cells, ON_PAGE, 0) == PANKHOLIM_DONE && row_is(cells, 1, page));
+        CHECK(row_is(cells, sizes[i], page + PANKHOLIM_INDEX(sizes[i], 1)));
+    }
+}
+
+/* Which display is chosen by which numbers; what the line held is kept. */
+static void test_choosing_the_line(void)
+{
+    static const char *const ignored[] = { "\033[2$}", "\033[3$~", "\033[99$}", "\033[?$~", "\033[>$}", "\033[0:$~" };
+    size_t i;
+
+    start_well(24);
+    CHECK(is_on_page() && feed(1920, "\033[1$}A", 0) == PANKHOLIM_DONE && is_on_page());
+    CHECK(reads(1920, 1, 1, 'A') && asks(1, 1));
+    CHECK(feed(1920, "\033[2$~", 0) == PANKHOLIM_DONE && is_on_page());
+    CHECK(feed(1920, "\033[1$}up", 0) == PANKHOLIM_DONE && is_on_line() && line_holds("up"));
+    for (i = 0; i < sizeof ignored / sizeof ignored[0]; i++)
+        CHECK(feed(1920, ignored[i], 0) == PANKHOLIM_DONE && is_on_line());
+    CHECK(feed(1920, "\033[1$~\033[1$}", 0) == PANKHOLIM_DONE && is_on_line());
+    /* No line: back to the page. The line and its cursor are still there when it is chosen again. */
+    CHECK(feed(1920, "\033[$~B", 0) == PANKHOLIM_DONE && is_on_page() && line_holds("up") && reads(1920, 1, 2, 'B'));
+    CHECK(feed(1920, "\033[1$}C", 0) == PANKHOLIM_DONE && is_on_page() && reads(1920, 1, 3, 'C'));
+    CHECK(feed(1920, ON_LINE "!", 0) == PANKHOLIM_DONE && line_holds("up!"));
+    CHECK(asks_with_line(1, 1, 1));
+}
+
+/* The flag is set by a change of a cell of the line, not counted, and cleared by asking. */
+static void test_line_flag(void)
+{
+    start_well(24);
+    CHECK(feed(1920, ON_LINE, 0) == PANKHOLIM_DONE && asks_with_line(0, 0, 0));
+    CHECK(feed(1920, "A", 0) == PANKHOLIM_DONE && asks_with_line(0, 0, 1) && asks_with_line(0, 0, 0));
+    CHECK(feed(1920, "\rA", 0) == PANKHOLIM_DONE && asks_with_line(0, 0, 0));
+    CHECK(feed(1920, "\r\033[K", 0) == PANKHOLIM_DONE && asks_with_line(0, 0, 1));
+    CHECK(feed(1920, "\r\033[K\n\033M", 0) == PANKHOLIM_DONE && asks_with_line(0, 0, 0));
+    /* Changed, and changed back. */
+    CHECK(feed(1920, "A\r\033[K", 0) == PANKHOLIM_DONE && asks_with_line(0, 0, 1));
+    /* It waits while the page is written. */
+    CHECK(feed(1920, "B" ON_PAGE, 0) == PANKHOLIM_DONE && feed(1920, "C\033[9HD", 0) == PANKHOLIM_DONE);
+    CHECK(asks_with_line(0x101, 2, 1) && asks_with_line(0, 0, 0));
+    CHECK(feed(1920, "\033[2J", 0) == PANKHOLIM_DONE && asks_with_line(0x101, 2, 0) && line_holds("B"));
+    /* ESC c sets it where it blanks a cell, and keeps it. */
+    CHECK(feed(1920, "\033c", 0) == PANKHOLIM_DONE && asks_with_line(0, 0, 1) && line_holds(""));
+    CHECK(feed(1920, "\033c", 0) == PANKHOLIM_DONE && asks_with_line(0, 0, 0));
+    CHECK(feed(1920, ON_LINE "A\033c\033c", 0) == PANKHOLIM_DONE && asks_with_line(0, 0, 1));
+    CHECK(feed(1920, ON_LINE "A", 0) == PANKHOLIM_DONE && start(24, 1920) == PANKHOLIM_DONE && asks_with_line(0, 0, 0));
+}
+
+/* With answer 1 it is unset, whatever the record says, and the record is left. */
+static void test_flag_of_broken_records(void)
+{
+    uint8_t *const bytes = (uint8_t *)&record.terminal;
+    uint64_t rows;
+    uint32_t count;
+    uint8_t flag;
+
+    start_well(24);
+    CHECK(feed(1920, ON_LINE "A", 0) == PANKHOLIM_DONE && bytes[LINE_CHANGED] == 1);
+    bytes[LINE_PRESENT] = 0;
+    CHECK(ask(&rows, &count, &flag) == PANKHOLIM_BROKEN && rows == 0 && count == 0 && flag == 0);
+    CHECK(bytes[LINE_CHANGED] == 1);
+    bytes[LINE_PRESENT] = 1;
+    CHECK(asks_with_line(0, 0, 1) && bytes[LINE_CHANGED] == 0);
+}
+
+/* While the modem writes to the line, the page and its cursor stay. */
+static void test_line_beside_the_page(void)
+{
+    static const char *const pieces[] = {
+        "signal -61 dBm", "\033[2J\033[H\033[1mup\033[m", "\n\v\f\033D\033M\033E\205", "\033[5L\033[5M\033[2;3r\033[?6l\033[?6h",
+        "\033[99B\033[99A\033[40C\033[9D\t\b", "\033[4h+\033[4l\033[3@\033[2P\033[9X", "\0337\033[99C\0338", "\033#8",
+        "\033[35;1;1;24;80$x\033[1;1;24;80$z\033[1;1;1;9;1;2;5;1$v", "\033[1\"q**\033[0\"q\033[?2J\033[?K", "\032\033[99;99H||||", "\033#8"
+    };
+    static uint16_t page_before[1920];
+    size_t i;
+
+    start_well(24);
+    CHECK(feed(1920, "\033[?7h\033[5;10r\033[?6h\033[2;77H1.10", 0) == PANKHOLIM_DONE && asks(0x20, 1));
+    memcpy(page_before, page, sizeof page_before);
+    feed_apart(ON_LINE);
+    for (i = 0; i < sizeof pieces / sizeof pieces[0]; i++) {
+        feed_apart(pieces[i]);
+        CHECK(memcmp(page_before, page, sizeof page_before) == 0 && cursor_is(PANKHOLIM_DONE, 6, 80, 1, 1));
+        CHECK(reads(1920, 6, 80, '0') && reads(1920, 1, 1, PANKHOLIM_BLANK) && is_on_line());
+    }
+    for (i = 0; i < PANKHOLIM_LINE_CELLS; i++)
+        CHECK(line[i] == 'E');
+    CHECK(asks_with_line(0, 0, 1));
+    /* Each has its own place; on the page origin and the wrap due are as they were. */
+    CHECK(feed(1920, "\033[;7H\033[6n", 6) == PANKHOLIM_DONE && replied_is("\033[1;7R"));
+    CHECK(feed(1920, ON_PAGE "\033[6n", 7) == PANKHOLIM_DONE && replied_is("\033[2;80R"));
+    CHECK(feed(1920, "x", 0) == PANKHOLIM_DONE && reads(1920, 7, 1, 'x') && asks(0x40, 1));
+}
+
+/* A character with wrap due goes to column 1 of the line; each display has its own saved cursor. */
+static void test_cursors_of_the_line(void)
+{
+    start_well(24);
+    feed_apart("\033[?7h\033[5;77H\0337" ON_LINE "\033[;77H1.10\0337x");
+    CHECK(line[0] == 'x' && line[76] == '1' && line[79] == '0');
+    feed_apart("\0338y");
+    CHECK(line[0] == 'y' && are_blank(line + 1, 75) && line[79] == '0');
+    feed_apart(ON_PAGE "\033[H\0338z");
+    CHECK(reads(1920, 5, 77, 'z') && cursor_is(PANKHOLIM_DONE, 5, 78, 0, 1));
+    /* CSI ?7l ends both wrap dues, wherever it comes. */
+    feed_apart("\033[5;80Hw" ON_LINE "\033[;80Hw");
+    CHECK(cursor_is(PANKHOLIM_DONE, 5, 80, 1, 1) && ((uint8_t *)&record.terminal)[LINE_WRAP] == 1);
+    feed_apart("\033[?7l");
+    CHECK(cursor_is(PANKHOLIM_DONE, 5, 80, 0, 1) && ((uint8_t *)&record.terminal)[LINE_WRAP] == 0);
+    /* A soft reset goes back to the page and renews what both saved; the line's cells and place stay. */
+    feed_apart("\033[;9H\033[!p");
+    CHECK(is_on_page() && line[0] == 'y' && cursor_is(PANKHOLIM_DONE, 5, 80, 0, 1));
+    feed_apart("\0338a\033[1$}b\0338c");
+    CHECK(reads(1920, 1, 1, 'a') && line[8] == 'b' && line[0] == 'c');
+}
+
+/* The same bytes at once and cut anywhere leave the same record, page and line. */
+static void test_line_in_pieces(void)
+{
+    static const char session[] = "Page\033[2$~\033[?7h\033[1$}\033[1;5msignal\033[m -61 dBm\0337\033[;77H1.10x\033[4h>\0338\033(0q"
+                                  ON_PAGE "\0337!\033[1$}\033[?7l\033[0K\033[$~?";
+    static uint16_t page_whole[1920], line_whole[80];
+    size_t length = sizeof session - 1, cut;
+    pankholim_terminal whole;
+
+    start_well(24);
+    CHECK(feed(1920, session, 0) == PANKHOLIM_DONE);
+    whole = record.terminal;
+    CHECK(is_on_page());
+    memcpy(page_whole, page, sizeof page_whole);
+    memcpy(line_whole, line, sizeof line_whole);
+    CHECK(text_of_is(line, 80, "x>ignal -61 dB\342\224\200\n") && text_is("Page!?\n", 80) && asks_with_line(1, 1, 1));
+    for (cut = 0; cut <= length + 1; cut++) {
+        start_well(24);
+        if (cut > length) {
+            feed_apart(session);
+        } else {
+            CHECK(feed_bytes(1920, session, cut, 0) == PANKHOLIM_DONE);
+            CHECK(feed_bytes(1920, session + cut, length - cut, 0) == PANKHOLIM_DONE);
+        }
+        CHECK(memcmp(&whole, &record.terminal, sizeof whole) == 0);
+        CHECK(memcmp(page_whole, page, sizeof page_whole) == 0 && memcmp(line_whole, line, sizeof line_whole) == 0);
+    }
+}
+
+/* ---- the line's bytes of a record */
+
+/* All that can be saved is, and a wrap is due. */
+#define FULL_LINE "\033[?7h" ON_LINE "\033[80Cx\033[1;7m\033[1\"q\033)0\033.A\033+B\033o\033~\217\0337"
+
+/* Where all bytes before these are whole. */
+static int line_is_whole(const uint8_t *bytes)
+{
+    size_t i;
+
+    for (i = 0; i < 4; i++)
+        if (bytes[LINE_SAVED_RENDITION + i] > 1)
+            return 0;
+    for (i = 0; i < 6; i++)
+        if (bytes[LINE_SAVED_SETS + i] > 3)
+            return 0;
+    return bytes[LINE_PRESENT] <= 1 && bytes[LINE_ACTIVE] <= bytes[LINE_PRESENT] && bytes[LINE_WRAP] <= 1
+           && bytes[LINE_SAVED_WRAP] <= 1 && bytes[LINE_SAVED_PROTECTED] <= 1 && bytes[LINE_SAVED_SHIFT] <= 2
+           && bytes[LINE_CHANGED] <= 1 && 1 <= bytes[LINE_COLUMN] && bytes[LINE_COLUMN] <= 80
+           && 1 <= bytes[LINE_SAVED_COLUMN] && bytes[LINE_SAVED_COLUMN] <= 80
+           && (bytes[LINE_WRAP] == 0 || (bytes[LINE_COLUMN] == 80 && bytes[AUTOWRAP] == 1))
+           && (bytes[LINE_SAVED_WRAP] == 0 || bytes[LINE_SAVED_COLUMN] == 80);
+}
+
+/* A record is taken or refused as it should be. Taken, the unused bytes are 0 then, and all else is as it was. */
+static int check_line_bytes(void)
+{
+    pankholim_terminal before = record.terminal;
+    int whole = line_is_whole((const uint8_t *)&before);
+
+    CHECK(feed(1920, "", 0) == (whole ? PANKHOLIM_DONE : PANKHOLIM_BROKEN));
+    if (whole)
+        memset((uint8_t *)&before + UNUSED, 0, RECORD - UNUSED);
+    CHECK(memcmp(&before, &record.terminal, sizeof before) == 0);
+    CHECK(page_is_left(0) && line_is_left(0));
+    check_any_record();
+    return whole;
+}
+
+static void test_line_bytes(void)
+{
+    static const char *const states[] = { "", ON_LINE "A", FULL_LINE, FULL_LINE "\033[?7l", FULL_LINE "\033[$~" };
+    uint8_t *const bytes = (uint8_t *)&record.terminal;
+    unsigned value, round, taken = 0;
+    size_t i, at;
+
+    for (i = 0; i < sizeof states / sizeof states[0]; i++) {
+        pankholim_terminal good;
+
+        start_well(24);
+        CHECK(feed(1920, states[i], 0) == PANKHOLIM_DONE);
+        good = record.terminal;
+        for (at = LINE_PRESENT; at < RECORD; at++)
+            for (value = 0; value < 256; value++) {
+                set_up();
+                record.terminal = good;
+                bytes[at] = (uint8_t)value;
+                check_line_bytes();
+            }
+        for (round = 0; round < 2000; round++) {
+            set_up();
+            record.terminal = good;
+            for (at = LINE_PRESENT; at < RECORD; at++)
+                bytes[at] = (uint8_t)(below(8) != 0 ? bytes[at] : below(4) != 0 ? below(3) : 79 + below(3));
+            taken += (unsigned)check_line_bytes();
+        }
+    }
+    CHECK(taken > 100);
+}
+
+/* The bytes of a fresh line, and of one where everything is set. */
+static void test_line_in_the_record(void)
+{
+    static const uint8_t fresh[RECORD - LINE_PRESENT] = { 0, 0, 1, 0, 1, 0, 0, 0, 0, 0, 0, 0, 2, 2, 0, 2, 0, 0, 0, 0, 0, 0, 0, 0 };
+    static const uint8_t full[RECORD - LINE_PRESENT] = { 1, 1, 80, 1, 80, 1, 1, 0, 0, 1, 0, 1, 3, 0, 3, 1, 1, 2, 1, 0, 0, 0, 0, 0 };
+    const uint8_t *bytes = (const uint8_t *)&record.terminal + LINE_PRESENT;
+
+    start_well(24);
+    CHECK(memcmp(bytes, fresh, sizeof fresh) == 0);
+    feed_apart(FULL_LINE);
+    CHECK(memcmp(bytes, full, sizeof full) == 0);
+    feed_apart("\033c");
+    CHECK(asks_with_line(0, 0, 1) && memcmp(bytes, fresh, sizeof fresh) == 0);
+}
+
+static void test_status_line(void)
+{
+    test_wrong_lines();
+    test_row();
+    test_choosing_the_line();
+    test_line_flag();
+    test_flag_of_broken_records();
+    test_line_beside_the_page();
+    test_cursors_of_the_line();
+    test_line_in_pieces();
+    test_line_bytes();
+    test_line_in_the_record();
+}
+
 /* ---- records are plain bytes, and there is one for each terminal */
 
 static void test_copies(void)
 {
-    static uint16_t other_page[1920];
+    static const char more[] = "7H2.1\033[1$~\033[1$}up";
+    static uint16_t other_page[1920], other_line[80];
     pankholim_terminal other;
     size_t other_read, other_replied;
     uint64_t rows;
     uint32_t count;
+    uint8_t flag;
 
     start_well(24);
     CHECK(feed(1920, "Firmware \033[3;7", 0) == PANKHOLIM_DONE);
     other = record.terminal;
     memcpy(other_page, page, sizeof other_page);
+    memcpy(other_line, line, sizeof other_line);
     CHECK(feed(1920, "H1.10", 0) == PANKHOLIM_DONE && asks(5, 2));
-    CHECK(pankholim_feed(&other, other_page, 1920, (const uint8_t *)"7H2.1", 5, reply, 0, &other_read,
-                         &other_replied) == PANKHOLIM_DONE);
-    CHECK(pankholim_ask(&other, &rows, &count) == PANKHOLIM_DONE && rows == 5 && count == 2);
+    CHECK(pankholim_feed(&other, other_page, 1920, other_line, 80, (const uint8_t *)more, sizeof more - 1, reply, 0,
+                         &other_read, &other_replied) == PANKHOLIM_DONE);
+    CHECK(pankholim_ask(&other, &rows, &count, &flag) == PANKHOLIM_DONE && rows == 5 && count == 2 && flag == 1);
     CHECK(page[PANKHOLIM_INDEX(3, 7)] == '1' && other_page[PANKHOLIM_INDEX(3, 77)] == '2');
     CHECK(page[PANKHOLIM_INDEX(3, 77)] == ' ' && other_page[PANKHOLIM_INDEX(3, 7)] == ' ');
+    CHECK(other_line[0] == 'u' && are_blank(line, 80) && row_is(1920, 1, page));
 }
 
 /* ---- a record's bytes are determined by its state */
-
-enum { RECORD = 96 };
 
 /* Fills the stack below the caller, so that a byte which a call forgets to write is seen. */
 static void fill_stack(int byte)
@@ -807,20 +1260,17 @@ static void fill_stack(int byte)
 /* Starts a record that held `byte`, feeds and asks, on a stack filled with `byte`; at once, or in two calls of each. */
 static pankholim_terminal record_after(int byte, int at_once)
 {
-    uint64_t rows;
-    uint32_t count;
-
     set_up();
     memset(&record.terminal, byte, sizeof record.terminal);
     fill_stack(byte);
     CHECK(start(24, 1920) == PANKHOLIM_DONE);
     fill_stack(byte);
-    CHECK(feed(1920, at_once ? "Hi\033[3;7" : "Hi\033[", 0) == PANKHOLIM_DONE);
+    CHECK(feed(1920, at_once ? "Hi\033[1$~\033[1$}up\0337\033[3;7" : "Hi\033[1$~\033[1$}up\0337\033[", 0) == PANKHOLIM_DONE);
     fill_stack(byte);
     if (!at_once)
         CHECK(feed(1920, "3;7", 0) == PANKHOLIM_DONE);
     fill_stack(byte);
-    CHECK(ask(&rows, &count) == PANKHOLIM_DONE && rows == 1 && count == 1);
+    CHECK(asks_with_line(1, 1, 1));
     fill_stack(byte);
     if (!at_once)
         CHECK(asks(0, 0));
@@ -845,9 +1295,23 @@ static void test_bytes_of_a_record(void)
 /* A byte of a stream: often part of a sequence. */
 static uint8_t random_byte(void)
 {
-    static const char parts[] = "\033\033[[[;;0123456789?!\"#$*()HJKLMPXm@rhlgnctvxz{\n\r\b\tAB";
+    static const char parts[] = "\033\033[[[;;0123456789?!\"#$*()HJKLMPXm@rhlgnctvxz{}~\n\r\b\tAB";
 
     return (uint8_t)(below(3) == 0 ? below(256) : (unsigned)(uint8_t)parts[below(sizeof parts - 1)]);
+}
+
+/* Such bytes, and now and then a change to the line or back. */
+static void fill_stream(uint8_t *stream, size_t length)
+{
+    static const char *const changes[] = { ON_LINE, "\033[1$}", ON_PAGE, ON_PAGE, "\033[$~" };
+    const char *change = "";
+    size_t i;
+
+    for (i = 0; i < length; i++) {
+        if (*change == '\0' && below(50) == 0)
+            change = changes[below(5)];
+        stream[i] = *change != '\0' ? (uint8_t)*change++ : random_byte();
+    }
 }
 
 /* All that a terminal shows of a stream. */
@@ -855,9 +1319,14 @@ struct seen {
     uint8_t sent[MAX_BYTES];
     size_t length;
     uint16_t page[PANKHOLIM_CELLS(48)];
+    uint16_t line[PANKHOLIM_LINE_CELLS];
     uint64_t changed;
+    uint8_t line_changed;
     pankholim_terminal record;
 };
+
+/* Pieces of streams after which the line was active, and streams that changed it. */
+static unsigned long on_line, line_changes;
 
 /* Feeds one piece, and returns how much of it was read. */
 static size_t feed_piece(size_t rows, const uint8_t *input, size_t length, size_t room, struct seen *seen)
@@ -866,15 +1335,20 @@ static size_t feed_piece(size_t rows, const uint8_t *input, size_t length, size_
     uint64_t more;
     uint32_t count;
     size_t row, column;
-    uint8_t wrap, shown;
+    pankholim_part part;
+    uint8_t flag, wrap, shown;
     uint16_t word;
 
     CHECK(answer == PANKHOLIM_DONE ? read_count == length : answer == PANKHOLIM_NO_ROOM);
     CHECK(read_count > 0 || room < PANKHOLIM_REPLY_ROOM);
     memcpy(seen->sent + seen->length, reply, replied);
     seen->length += replied;
-    CHECK(ask(&more, &count) == PANKHOLIM_DONE && more >> rows == 0);
+    CHECK(ask(&more, &count, &flag) == PANKHOLIM_DONE && more >> rows == 0 && flag <= 1);
     seen->changed |= more;
+    seen->line_changed |= flag;
+    CHECK(find_row(PANKHOLIM_CELLS(rows), PANKHOLIM_LINE_CELLS, 1, &part) == PANKHOLIM_DONE);
+    CHECK(part.cells == page || part.cells == line);
+    on_line += part.cells == line;
     CHECK(cursor(&row, &column, &wrap, &shown) == PANKHOLIM_DONE);
     CHECK(read_word(PANKHOLIM_CELLS(rows), row, column, &word) == PANKHOLIM_DONE && (!wrap || column == 80));
     return read_count;
@@ -894,6 +1368,7 @@ static void feed_stream(size_t rows, const uint8_t *stream, size_t length, int i
         at += feed_piece(rows, stream + at, piece < length - at ? piece : length - at, room, seen);
     }
     memcpy(seen->page, page, PANKHOLIM_CELLS(rows) * sizeof(uint16_t));
+    memcpy(seen->line, line, sizeof seen->line);
     seen->record = record.terminal;
 }
 
@@ -902,73 +1377,86 @@ static void test_streams(void)
     static uint8_t stream[1000];
     static struct seen whole, parts;
     unsigned round;
-    size_t i;
 
     for (round = 0; round < 300; round++) {
         size_t rows = sizes[round % 3];
 
-        for (i = 0; i < sizeof stream; i++)
-            stream[i] = random_byte();
+        fill_stream(stream, sizeof stream);
         feed_stream(rows, stream, sizeof stream, 0, &whole);
         feed_stream(rows, stream, sizeof stream, 1, &parts);
         CHECK(whole.length == parts.length && memcmp(whole.sent, parts.sent, whole.length) == 0);
         CHECK(memcmp(whole.page, parts.page, sizeof whole.page) == 0);
-        CHECK(whole.changed == parts.changed);
+        CHECK(memcmp(whole.line, parts.line, sizeof whole.line) == 0);
+        CHECK(whole.changed == parts.changed && whole.line_changed == parts.line_changed);
         CHECK(memcmp(&whole.record, &parts.record, sizeof whole.record) == 0);
+        line_changes += whole.line_changed;
     }
+    CHECK(on_line > 1000 && line_changes > 100);
 }
 
-/* ---- nothing of the page reaches the modem */
+/* ---- nothing of page and line reaches the modem */
 
-/* The terminal of the same modem over another page. */
+/* The terminal of the same modem over another page and line. */
 static struct {
     pankholim_terminal terminal;
     uint16_t page[PANKHOLIM_CELLS(48)];
+    uint16_t line[PANKHOLIM_LINE_CELLS];
     uint8_t reply[MAX_BYTES];
 } second;
 
-/* May one of the two be asked for its changed rows? */
+/* May one of the two be asked for what changed? */
 static int one_is_asked;
 
-/* Feedings of both: all; that sent something; that stopped for want of room; that left other changed rows, where
- * none was asked for these. */
+/* Feedings of both: all; that sent something; that stopped for want of room; that left other changed rows, or another
+ * flag of the line, where none was asked for these. */
 static struct {
-    unsigned long all, replied, stopped, changed_otherwise;
+    unsigned long all, replied, stopped, changed_otherwise, flagged_otherwise;
 } pairs;
 
-/* Two fresh terminals, over blank cells and any words. */
+/* Two fresh terminals, over blank cells and any words, the second perhaps with a line that was noted. */
 static void start_pair(size_t rows)
 {
     size_t i;
 
     start_well(rows);
     second.terminal = record.terminal;
+    ((uint8_t *)&second.terminal)[LINE_CHANGED] = (uint8_t)below(2);
     one_is_asked = (int)below(2);
     for (i = 0; i < PANKHOLIM_CELLS(rows); i++)
         second.page[i] = (uint16_t)below(65536);
+    for (i = 0; i < PANKHOLIM_LINE_CELLS; i++)
+        second.line[i] = (uint16_t)below(65536);
 }
 
-/* Other words come into the second page, also where both were erased. */
+/* Other words come into the second page and line, also where both were erased. */
 static void change_second(size_t cells)
 {
     unsigned n;
 
-    for (n = 0; n < 20; n++)
+    for (n = 0; n < 20; n++) {
         second.page[below((unsigned)cells)] = (uint16_t)below(65536);
+        second.line[below(PANKHOLIM_LINE_CELLS)] = (uint16_t)below(65536);
+    }
     CHECK(memcmp(page, second.page, cells * sizeof(uint16_t)) != 0);
+    CHECK(memcmp(line, second.line, sizeof second.line) != 0);
 }
 
-/* All of a record is to be the same but its first 8 bytes, the changed rows; and all of it once these are asked for. */
+/* All of a record is to be the same but its first 8 bytes, the changed rows, and the line's flag; and all of it once
+ * these are asked for. */
 static void compare_records(pankholim_terminal one, pankholim_terminal other)
 {
+    uint8_t *const bytes = (uint8_t *)&one, *const other_bytes = (uint8_t *)&other;
     uint64_t rows, other_rows;
     uint32_t count;
+    uint8_t flag, other_flag;
 
-    CHECK(memcmp(one.opaque + 1, other.opaque + 1, RECORD - 8) == 0);
-    CHECK(pankholim_ask(&one, &rows, &count) == PANKHOLIM_DONE);
-    CHECK(pankholim_ask(&other, &other_rows, &count) == PANKHOLIM_DONE);
+    CHECK(memcmp(bytes + 8, other_bytes + 8, LINE_CHANGED - 8) == 0);
+    CHECK(memcmp(bytes + LINE_CHANGED + 1, other_bytes + LINE_CHANGED + 1, RECORD - LINE_CHANGED - 1) == 0);
+    CHECK(pankholim_ask(&one, &rows, &count, &flag) == PANKHOLIM_DONE);
+    CHECK(pankholim_ask(&other, &other_rows, &count, &other_flag) == PANKHOLIM_DONE);
     CHECK(memcmp(&one, &other, sizeof one) == 0);
     pairs.changed_otherwise += !one_is_asked && rows != other_rows;
+    pairs.flagged_otherwise += !one_is_asked && flag != other_flag;
 }
 
 /* What is asked and read of one of the two, or refused to it, is not seen by the modem. */
@@ -976,24 +1464,32 @@ static void disturb_one(size_t cells)
 {
     static const uint8_t query[] = "\033[6n";
     pankholim_terminal broken;
+    pankholim_part part;
     uint64_t rows;
     uint32_t count;
     uint16_t word;
+    uint8_t flag;
     size_t n, m;
 
     memset(&broken, 0, sizeof broken);
-    switch (below(4)) {
+    switch (below(6)) {
     case 0:
-        CHECK(!one_is_asked || ask(&rows, &count) == PANKHOLIM_DONE);
+        CHECK(!one_is_asked || ask(&rows, &count, &flag) == PANKHOLIM_DONE);
         break;
     case 1:
         CHECK(read_word(cells, 1 + below(24), 1 + below(80), &word) == PANKHOLIM_DONE);
         break;
     case 2:
-        CHECK(pankholim_feed(&record.terminal, page, cells - 1, query, 4, reply, 64, &n, &m) == PANKHOLIM_WRONG_SIZE);
+        CHECK(pankholim_feed(&record.terminal, page, cells - 1, line, 80, query, 4, reply, 64, &n, &m) == PANKHOLIM_WRONG_SIZE);
+        break;
+    case 3:
+        CHECK(pankholim_feed(&record.terminal, page, cells, line, 79, query, 4, reply, 64, &n, &m) == PANKHOLIM_WRONG_SIZE);
+        break;
+    case 4:
+        CHECK(find_row(cells, 80, 1, &part) == PANKHOLIM_DONE);
         break;
     default:
-        CHECK(pankholim_feed(&broken, page, cells, query, 4, reply, 64, &n, &m) == PANKHOLIM_BROKEN);
+        CHECK(pankholim_feed(&broken, page, cells, line, 80, query, 4, reply, 64, &n, &m) == PANKHOLIM_BROKEN);
     }
 }
 
@@ -1008,8 +1504,8 @@ static size_t feed_pair(size_t cells, const uint8_t *input, size_t length, size_
     pairs.all++;
     memset(second.reply, 0x11, room);
     answer = feed_bytes(cells, input, length, room);
-    CHECK(pankholim_feed(&second.terminal, second.page, cells, input, length, second.reply, room, &second_read,
-                         &second_replied) == answer);
+    CHECK(pankholim_feed(&second.terminal, second.page, cells, second.line, PANKHOLIM_LINE_CELLS, input, length,
+                         second.reply, room, &second_read, &second_replied) == answer);
     CHECK(read_count == second_read && replied == second_replied && memcmp(reply, second.reply, replied) == 0);
     for (i = replied; i < room; i++)
         CHECK(second.reply[i] == 0x11);
@@ -1035,19 +1531,24 @@ static void test_no_leak(void)
 {
     static uint8_t stream[600];
     unsigned round;
-    size_t i;
 
     for (round = 0; round < 300; round++) {
-        for (i = 0; i < sizeof stream; i++)
-            stream[i] = random_byte();
+        fill_stream(stream, sizeof stream);
         feed_pair_in_pieces(sizes[round % 3], stream, sizeof stream);
     }
     CHECK(pairs.replied > 100 && pairs.stopped > 100 && pairs.changed_otherwise > pairs.all / 10);
+    CHECK(pairs.flagged_otherwise > 100);
 }
 
 /* ---- the captures */
 
-static size_t load(const char *name, const char *ending, uint8_t *into)
+struct capture {
+    uint8_t input[MAX_FILE], text[MAX_FILE], line[MAX_FILE];
+    size_t length, text_length, line_length;
+};
+
+/* Reads a file. Where there is none, it is as if it held `otherwise`, if that is given. */
+static size_t load(const char *name, const char *ending, const char *otherwise, uint8_t *into)
 {
     char path[4096];
     FILE *file;
@@ -1055,7 +1556,11 @@ static size_t load(const char *name, const char *ending, uint8_t *into)
 
     snprintf(path, sizeof path, "%s%s", name, ending);
     file = fopen(path, "rb");
-    CHECK(file != NULL);
+    CHECK(file != NULL || otherwise != NULL);
+    if (file == NULL) {
+        memcpy(into, otherwise, strlen(otherwise));
+        return strlen(otherwise);
+    }
     length = fread(into, 1, MAX_FILE, file);
     CHECK(length < MAX_FILE && !ferror(file));
     fclose(file);
@@ -1063,33 +1568,36 @@ static size_t load(const char *name, const char *ending, uint8_t *into)
 }
 
 /* Feeds a capture in pieces of one size, with just the room that guarantees progress. */
-static void check_capture(const uint8_t *input, size_t length, const uint8_t *expected, size_t size, size_t piece)
+static void check_capture(const struct capture *capture, size_t piece)
 {
     size_t at = 0, written;
 
     start_well(24);
-    while (at < length) {
-        size_t next = piece < length - at ? piece : length - at;
-        uint8_t answer = feed_bytes(1920, input + at, next, PANKHOLIM_REPLY_ROOM);
+    while (at < capture->length) {
+        size_t left = capture->length - at;
+        uint8_t answer = feed_bytes(1920, capture->input + at, piece < left ? piece : left, PANKHOLIM_REPLY_ROOM);
 
         CHECK(answer == PANKHOLIM_DONE || answer == PANKHOLIM_NO_ROOM);
         CHECK(read_count > 0);
         at += read_count;
     }
     CHECK(write_text(1920, MAX_BYTES, &written) == PANKHOLIM_DONE);
-    CHECK(written == size && memcmp(text, expected, size) == 0);
+    CHECK(written == capture->text_length && memcmp(text, capture->text, written) == 0);
+    CHECK(write_text_of(line, PANKHOLIM_LINE_CELLS, MAX_BYTES, &written) == PANKHOLIM_DONE);
+    CHECK(written == capture->line_length && memcmp(text, capture->line, written) == 0);
 }
 
 static void test_capture(const char *name)
 {
-    static uint8_t input[MAX_FILE], expected[MAX_FILE];
-    size_t length = load(name, ".bytes", input);
-    size_t size = load(name, ".txt", expected);
+    static struct capture capture;
 
-    check_capture(input, length, expected, size, length);
-    check_capture(input, length, expected, size, 1);
-    check_capture(input, length, expected, size, 7);
-    feed_pair_in_pieces(24, input, length);
+    capture.length = load(name, ".bytes", NULL, capture.input);
+    capture.text_length = load(name, ".txt", NULL, capture.text);
+    capture.line_length = load(name, ".line.txt", "\n", capture.line);
+    check_capture(&capture, capture.length);
+    check_capture(&capture, 1);
+    check_capture(&capture, 7);
+    feed_pair_in_pieces(24, capture.input, capture.length);
 }
 
 int main(int argc, char **argv)
@@ -1103,6 +1611,7 @@ int main(int argc, char **argv)
     test_start();
     test_start_with_many_rows();
     test_start_on_wrong_pages();
+    test_start_on_wrong_lines();
     test_refused_starts_of_a_terminal();
     test_broken_records();
     test_records_of_any_bytes();
@@ -1123,6 +1632,7 @@ int main(int argc, char **argv)
     test_version();
     test_text();
     test_text_of_every_word();
+    test_status_line();
     test_copies();
     test_bytes_of_a_record();
     test_streams();

@@ -12,12 +12,13 @@
 #include "pankholim.h"
 
 #define BUFFER_WORDS 4096
+#define LINE_WORDS 128
 #define MOST_ROOM 4096
 #define UNTOUCHED 0xEE
 
 static pankholim_terminal terminal;
-static uint16_t buffer[BUFFER_WORDS];
-static size_t lent;
+static uint16_t buffer[BUFFER_WORDS], line[LINE_WORDS];
+static size_t lent, line_lent = PANKHOLIM_LINE_CELLS;
 
 /* ---- output, lowest byte first */
 
@@ -27,6 +28,14 @@ static void put_number(uint64_t number, unsigned bytes)
         putchar((int)(number & 0xFF));
         number >>= 8;
     }
+}
+
+static void put_words(const uint16_t *words, size_t length)
+{
+    size_t i;
+
+    for (i = 0; i < length; i++)
+        put_number(words[i], 2);
 }
 
 static void put_bytes(const uint8_t *bytes, size_t length)
@@ -45,9 +54,9 @@ static size_t at_most(size_t most, unsigned number)
 /* What a refused start returns in the script is the fresh state of 24 rows; the record's leaves the record. */
 static void make_fresh(void)
 {
-    static uint16_t page[PANKHOLIM_CELLS(24)];
+    static uint16_t page[PANKHOLIM_CELLS(24)], other[PANKHOLIM_LINE_CELLS];
 
-    if (pankholim_start(&terminal, 24, page, PANKHOLIM_CELLS(24)) != PANKHOLIM_DONE)
+    if (pankholim_start(&terminal, 24, page, PANKHOLIM_CELLS(24), other, PANKHOLIM_LINE_CELLS) != PANKHOLIM_DONE)
         exit(1);
 }
 
@@ -56,7 +65,7 @@ static void start(unsigned rows, unsigned words)
     uint8_t answer;
 
     lent = at_most(BUFFER_WORDS, words);
-    answer = pankholim_start(&terminal, rows, buffer, lent);
+    answer = pankholim_start(&terminal, rows, buffer, lent, line, line_lent);
     if (answer != PANKHOLIM_DONE)
         make_fresh();
     putchar('S');
@@ -74,7 +83,7 @@ static int feed(unsigned length, unsigned most)
     if (fread(input, 1, length, stdin) != length)
         return 0;
     memset(reply, UNTOUCHED, room);
-    answer = pankholim_feed(&terminal, buffer, lent, input, length, reply, room, &read, &replied);
+    answer = pankholim_feed(&terminal, buffer, lent, line, line_lent, input, length, reply, room, &read, &replied);
     putchar('F');
     putchar(answer);
     put_number(read, 2);
@@ -87,12 +96,14 @@ static void ask(void)
 {
     uint64_t rows;
     uint32_t count;
-    uint8_t answer = pankholim_ask(&terminal, &rows, &count);
+    uint8_t flag;
+    uint8_t answer = pankholim_ask(&terminal, &rows, &count, &flag);
 
     putchar('A');
     putchar(answer);
     put_number(rows, 8);
     put_number(count, 1);
+    putchar(flag);
 }
 
 static void read_cell(unsigned row, unsigned column)
@@ -105,13 +116,27 @@ static void read_cell(unsigned row, unsigned column)
     put_number(word, 2);
 }
 
+static void find_row(unsigned row)
+{
+    pankholim_part part;
+    uint8_t answer = pankholim_row(terminal, buffer, lent, line, line_lent, row, &part);
+
+    putchar('O');
+    putchar(answer);
+    put_number(part.length, 1);
+    put_words(part.cells, part.length);
+}
+
 static void put_page(void)
 {
-    size_t i;
-
     putchar('P');
-    for (i = 0; i < lent; i++)
-        put_number(buffer[i], 2);
+    put_words(buffer, lent);
+}
+
+static void put_line(void)
+{
+    putchar('D');
+    put_words(line, line_lent);
 }
 
 static void put_text(void)
@@ -142,6 +167,10 @@ static const struct {
     { 6, 60, 1 }, { 7, 61, 1 },                             /* origin and autowrap */
     { 8, 75, 0 }, { 9, 76, 0 }, { 10, 77, 1 },              /* the saved row, column and wrap due */
     { 11, 62, 1 },                                          /* cursor shown */
+    { 13, 96, 1 }, { 14, 97, 1 },                           /* a line, and whether it is active */
+    { 15, 98, 0 }, { 16, 99, 1 },                           /* its column and wrap due */
+    { 17, 100, 0 }, { 18, 101, 1 },                         /* its saved column and wrap due */
+    { 19, 114, 1 },                                         /* its flag */
 };
 
 static void set_field(unsigned field, unsigned value)
@@ -172,7 +201,7 @@ static int set_parser(void)
     return 1;
 }
 
-/* The state without parser and changed rows, in the script's order: places in the record, both inside. */
+/* The state without parser, changed rows and the line's flag, in the script's order: places in the record, both inside. */
 static const struct {
     size_t first, last;
 } shown[] = {
@@ -186,6 +215,7 @@ static const struct {
     { 54, 54 },             /* the pending shift */
     { 75, 90 },             /* what is saved */
     { TABS, TABS + 9 },     /* tab flags */
+    { 96, 113 },            /* the line */
 };
 
 static void put_state(void)
@@ -204,12 +234,16 @@ static int carry_out(uint8_t letter, unsigned a, unsigned b)
     switch (letter) {
     case 'S': start(a, b); return 1;
     case 'L': lent = at_most(BUFFER_WORDS, a); return 1;
+    case 'M': line_lent = at_most(LINE_WORDS, a); return 1;
     case 'F': return feed(a, b);
     case 'A': ask(); return 1;
     case 'R': read_cell(a, b); return 1;
+    case 'O': find_row(a); return 1;
     case 'P': put_page(); return 1;
+    case 'D': put_line(); return 1;
     case 'T': put_text(); return 1;
     case 'W': if (a < BUFFER_WORDS) buffer[a] = (uint16_t)b; return 1;
+    case 'I': if (a < LINE_WORDS) line[a] = (uint16_t)b; return 1;
     case 'B': set_field(a, b); return 1;
     case 'Q': return set_parser();
     case 'V': put_state(); return 1;

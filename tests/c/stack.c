@@ -20,9 +20,10 @@ static uint8_t stack[STACK];
 static ucontext_t caller, callee;
 
 static pankholim_terminal terminal;
-static uint16_t page[PANKHOLIM_CELLS(48)];
+static uint16_t page[PANKHOLIM_CELLS(48)], line[PANKHOLIM_LINE_CELLS];
+static pankholim_part part;
 static size_t rows, length, row, column, read_count, replied;
-static uint8_t input[PIECE], reply[256], text[PANKHOLIM_TEXT_ROOM(48)], wrap, shown;
+static uint8_t input[PIECE], reply[256], text[PANKHOLIM_TEXT_ROOM(48)], flag, wrap, shown;
 static uint64_t changed;
 static uint32_t count;
 static uint16_t word;
@@ -33,17 +34,24 @@ static void nothing(void)
 
 static void start(void)
 {
-    pankholim_start(&terminal, rows, page, PANKHOLIM_CELLS(rows));
+    pankholim_start(&terminal, rows, page, PANKHOLIM_CELLS(rows), line, PANKHOLIM_LINE_CELLS);
 }
 
 static void feed(void)
 {
-    pankholim_feed(&terminal, page, PANKHOLIM_CELLS(rows), input, length, reply, sizeof reply, &read_count, &replied);
+    pankholim_feed(&terminal, page, PANKHOLIM_CELLS(rows), line, PANKHOLIM_LINE_CELLS, input, length, reply,
+                   sizeof reply, &read_count, &replied);
 }
 
 static void ask(void)
 {
-    pankholim_ask(&terminal, &changed, &count);
+    pankholim_ask(&terminal, &changed, &count, &flag);
+}
+
+/* With the record that goes by value. */
+static void find_row(void)
+{
+    pankholim_row(terminal, page, PANKHOLIM_CELLS(rows), line, PANKHOLIM_LINE_CELLS, row, &part);
 }
 
 static void read_cell(void)
@@ -94,6 +102,7 @@ static void note_all(void)
     note(feed);
     note(ask);
     note(cursor);
+    note(find_row);
     note(read_cell);
     note(write_text);
 }
@@ -111,9 +120,22 @@ static unsigned below(unsigned bound)
 /* A byte of a stream: often part of a sequence. */
 static uint8_t random_byte(void)
 {
-    static const char parts[] = "\033\033[[[;;0123456789?!\"#()HJKLMPXm@rhlgnc\n\r\b\tAB";
+    static const char parts[] = "\033\033[[[;;0123456789?!\"#$()HJKLMPXm@rhlgnc}~\n\r\b\tAB";
 
     return (uint8_t)(below(3) == 0 ? below(256) : (unsigned)(uint8_t)parts[below(sizeof parts - 1)]);
+}
+
+/* Such bytes, with a change to the line or back now and then. */
+static void fill_input(void)
+{
+    static const char *const changes[] = { "\033[1$~\033[1$}", "\033[1$}", "\033[$}", "\033[$~" };
+    const char *change = "";
+
+    for (length = 0; length < sizeof input; length++) {
+        if (*change == '\0' && below(100) == 0)
+            change = changes[below(4)];
+        input[length] = *change != '\0' ? (uint8_t)*change++ : random_byte();
+    }
 }
 
 static int feed_capture(const char *name)
@@ -142,8 +164,7 @@ int main(int argc, char **argv)
     for (i = 0; i < ROUNDS; i++) {
         rows = 24 + 12 * (size_t)(i % 3);
         note(start);
-        for (length = 0; length < sizeof input; length++)
-            input[length] = random_byte();
+        fill_input();
         note_all();
     }
     rows = 24;

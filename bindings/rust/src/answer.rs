@@ -10,11 +10,11 @@ pub enum Answer {
     Done,
     /// 1: the record is not whole; at a start, there is no page of so many rows.
     Broken,
-    /// 2: the page has not 80 cells for each row.
+    /// 2: the page has not 80 cells for each row, or the line has not 80.
     WrongSize,
     /// 3: the next reply is longer than the room left. What was read before it is done.
     NoRoom,
-    /// 4: the row or the column is off the page.
+    /// 4: the row or the column is off the page, or the row off the display that is active.
     OffPage,
 }
 
@@ -73,9 +73,9 @@ impl Answer {
 pub enum Refusal {
     /// The record is not whole; at a start, there is no page of so many rows.
     Broken,
-    /// The page has not 80 cells for each row.
+    /// The page has not 80 cells for each row, or the line has not 80.
     WrongSize,
-    /// The row or the column is off the page.
+    /// The row or the column is off the page, or the row off the display that is active.
     OffPage,
 }
 
@@ -95,8 +95,10 @@ impl fmt::Display for Refusal {
             Refusal::Broken => {
                 "the terminal record is not whole, or there is no page of so many rows"
             }
-            Refusal::WrongSize => "the page has not 80 cells for each row of the terminal",
-            Refusal::OffPage => "the row or the column is off the page",
+            Refusal::WrongSize => {
+                "the page has not 80 cells for each row of the terminal, or the status line has not 80"
+            }
+            Refusal::OffPage => "the row or the column is off the page or the status line",
         })
     }
 }

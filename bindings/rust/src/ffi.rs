@@ -4,7 +4,14 @@
 #[repr(C)]
 #[derive(Clone)]
 pub struct Terminal {
-    pub opaque: [u64; 12],
+    pub opaque: [u64; 15],
+}
+
+/// As `pankholim_part`.
+#[repr(C)]
+pub struct Part {
+    pub cells: *const u16,
+    pub length: usize,
 }
 
 extern "C" {
@@ -15,12 +22,16 @@ extern "C" {
         rows: usize,
         page: *mut u16,
         cells: usize,
+        line: *mut u16,
+        line_cells: usize,
     ) -> u8;
 
     pub fn pankholim_feed(
         terminal: *mut Terminal,
         page: *mut u16,
         cells: usize,
+        line: *mut u16,
+        line_cells: usize,
         input: *const u8,
         length: usize,
         reply: *mut u8,
@@ -29,7 +40,22 @@ extern "C" {
         replied: *mut usize,
     ) -> u8;
 
-    pub fn pankholim_ask(terminal: *mut Terminal, changed: *mut u64, count: *mut u32) -> u8;
+    pub fn pankholim_ask(
+        terminal: *mut Terminal,
+        changed: *mut u64,
+        count: *mut u32,
+        line_changed: *mut u8,
+    ) -> u8;
+
+    pub fn pankholim_row(
+        terminal: Terminal,
+        page: *const u16,
+        cells: usize,
+        line: *const u16,
+        line_cells: usize,
+        row: usize,
+        part: *mut Part,
+    ) -> u8;
 
     pub fn pankholim_read(
         terminal: *const Terminal,

@@ -58,8 +58,8 @@ impl fmt::Display for TextRoom {
 
 impl Error for TextRoom {}
 
-/// Writes a page as UTF-8 at the front of a buffer, and returns how many bytes that were: a line for each
-/// row, spaces at its end off, closed by a line feed.
+/// Writes a page as UTF-8 at the front of a buffer, and returns how many bytes that were: a line of text
+/// for each row, spaces at its end off, closed by a line feed.
 pub fn write_text(page: &[u16], out: &mut [u8]) -> Result<usize, TextRoom> {
     let mut length = 0;
     let answer = unsafe {
@@ -78,7 +78,8 @@ pub fn write_text(page: &[u16], out: &mut [u8]) -> Result<usize, TextRoom> {
     }
 }
 
-/// A page as text: a line for each row, spaces at its end off, closed by a line feed.
+/// A page as text: a line of text for each row, spaces at its end off, closed by a line feed. A status line is a
+/// page of one row here.
 ///
 /// ```
 /// let mut page = vec![0x20; 80];

@@ -1,33 +1,37 @@
-//! The record of a terminal, over pages that the caller keeps.
+//! The record of a terminal, over pages and lines that the caller keeps.
 
 use crate::answer::{Answer, Refusal};
 use crate::cell::Cell;
 use crate::ffi;
 use crate::rows::RowSet;
 use std::fmt;
+use std::ptr;
+use std::slice;
 
 /// The longest reply to one byte. With so much room a feeding that has input and is not refused reads at
 /// least one byte.
 pub const REPLY_ROOM: usize = 11;
 
-/// All of a terminal that lasts between two calls, but its page, which the caller lends at each call.
+/// All of a terminal that lasts between two calls, but its page and its status line, which the caller lends at each
+/// call that takes them. A line is any 80 words; a [`Line`](crate::Line) is one.
 ///
-/// It is plain data: a clone is a terminal of its own, for a copy of the page, and its bytes may be kept and
+/// It is plain data: a clone is a terminal of its own, for a copy of page and line, and its bytes may be kept and
 /// brought back. What an unrefused call leaves are the same bytes wherever the state is the same.
 ///
 /// ```
-/// use pankholim::{Answer, Record, Refusal};
+/// use pankholim::{Answer, Line, Record, Refusal};
 ///
 /// let mut page = [0; 24 * 80];
-/// let mut record = Record::start(24, &mut page).unwrap();
+/// let mut line = Line::new();
+/// let mut record = Record::start(24, &mut page, &mut line).unwrap();
 ///
 /// // The reply to CSI 6n, the cursor's position, finds no room in 5 bytes: its last byte is not read.
 /// let mut reply = [0; 5];
-/// let fed = record.feed(&mut page, b"\x1b[6n", &mut reply).unwrap();
+/// let fed = record.feed(&mut page, &mut line, b"\x1b[6n", &mut reply).unwrap();
 /// assert_eq!((fed.answer, fed.read, fed.replied), (Answer::NoRoom, 3, 0));
 ///
 /// let mut reply = [0; 6];
-/// let fed = record.feed(&mut page, b"n", &mut reply).unwrap();
+/// let fed = record.feed(&mut page, &mut line, b"n", &mut reply).unwrap();
 /// assert_eq!((fed.answer, fed.read, fed.replied), (Answer::Done, 1, 6));
 /// assert_eq!(&reply, b"\x1b[1;1R");
 ///
@@ -57,14 +61,23 @@ impl Fed {
     }
 }
 
-/// The cursor.
+/// What changed since the last asking, or since the start.
+#[derive(Clone, Copy, PartialEq, Eq, Hash, Debug, Default)]
+pub struct Changed {
+    /// The rows of the page where a step changed a cell.
+    pub rows: RowSet,
+    /// Did a step change a cell of the status line?
+    pub line: bool,
+}
+
+/// The page's cursor.
 #[derive(Clone, Copy, PartialEq, Eq, Hash, Debug)]
 pub struct Cursor {
     /// Its row on the page, from 1, also with origin mode on.
     pub row: usize,
     /// Its column, from 1.
     pub column: usize,
-    /// Is a wrap due, so that the next character starts a new line?
+    /// Is a wrap due, so that the next character starts a new row?
     pub wrap: bool,
     /// Is it shown?
     pub shown: bool,
@@ -72,21 +85,34 @@ pub struct Cursor {
 
 impl Record {
     /// How many bytes a record has.
-    pub const SIZE: usize = 96;
+    pub const SIZE: usize = 120;
 
-    /// Starts a terminal with `rows` rows: 24, 36 or 48, with a page of 80 cells for each. Every cell becomes
-    /// blank. Refused with `Broken` where there is no page of so many rows, with `WrongSize` where the page
-    /// has another length; then the page is left.
-    pub fn start(rows: usize, page: &mut [u16]) -> Result<Record, Refusal> {
+    /// Starts a terminal with `rows` rows: 24, 36 or 48, with a page of 80 cells for each and a line of 80. Every
+    /// cell of both becomes blank. Refused with `Broken` where there is no page of so many rows, with `WrongSize`
+    /// where page or line have another length; then both are left.
+    pub fn start(rows: usize, page: &mut [u16], line: &mut [u16]) -> Result<Record, Refusal> {
         let mut record = Record::default();
-        record.restart(rows, page).map(|_| record)
+        record.restart(rows, page, line).map(|_| record)
     }
 
-    /// Starts this record anew, whatever it was: see [`start`](Record::start). Refused, record and page are
+    /// Starts this record anew, whatever it was: see [`start`](Record::start). Refused, record, page and line are
     /// left, and the terminal goes on where it was.
-    pub fn restart(&mut self, rows: usize, page: &mut [u16]) -> Result<(), Refusal> {
-        let number =
-            unsafe { ffi::pankholim_start(&mut self.raw, rows, page.as_mut_ptr(), page.len()) };
+    pub fn restart(
+        &mut self,
+        rows: usize,
+        page: &mut [u16],
+        line: &mut [u16],
+    ) -> Result<(), Refusal> {
+        let number = unsafe {
+            ffi::pankholim_start(
+                &mut self.raw,
+                rows,
+                page.as_mut_ptr(),
+                page.len(),
+                line.as_mut_ptr(),
+                line.len(),
+            )
+        };
         Answer::of_call(number).map(|_| ())
     }
 
@@ -110,12 +136,13 @@ impl Record {
     }
 
     /// Feeds bytes from the modem. Sequences may be cut anywhere between two calls. Refused with `Broken` or
-    /// `WrongSize`; then record, page and reply are left. Nothing of the page reaches the modem: what is
-    /// returned, the bytes replied, and the record but for its changed rows are the same over any page of the right
-    /// length.
+    /// `WrongSize`; then record, page, line and reply are left. Nothing of page and line reaches the modem: what is
+    /// returned, the bytes replied, and the record but for what it noted as changed are the same over any page and
+    /// any line of the right length, whatever was noted.
     pub fn feed(
         &mut self,
         page: &mut [u16],
+        line: &mut [u16],
         input: &[u8],
         reply: &mut [u8],
     ) -> Result<Fed, Refusal> {
@@ -126,6 +153,8 @@ impl Record {
                 &mut self.raw,
                 page.as_mut_ptr(),
                 page.len(),
+                line.as_mut_ptr(),
+                line.len(),
                 input.as_ptr(),
                 input.len(),
                 reply.as_mut_ptr(),
@@ -141,18 +170,65 @@ impl Record {
         })
     }
 
-    /// The rows where a step changed a cell since the last asking, or since the start; then none is noted any
-    /// more. Refused with `Broken`; then the record is left.
-    pub fn ask(&mut self) -> Result<RowSet, Refusal> {
+    /// What a step changed since the last asking, or since the start; then nothing is noted any more. Refused
+    /// with `Broken`; then the record is left.
+    pub fn ask(&mut self) -> Result<Changed, Refusal> {
         let mut bits = 0;
         let mut count = 0;
-        let number = unsafe { ffi::pankholim_ask(&mut self.raw, &mut bits, &mut count) };
+        let mut line = 0;
+        let number = unsafe { ffi::pankholim_ask(&mut self.raw, &mut bits, &mut count, &mut line) };
         let rows = RowSet::from_bits(bits);
         debug_assert_eq!(count as usize, rows.len());
-        Answer::of_call(number).map(|_| rows)
+        Answer::of_call(number).map(|_| Changed {
+            rows,
+            line: line == 1,
+        })
     }
 
-    /// The cell at a row and column, both from 1. Refused with `Broken`, `WrongSize` or `OffPage`.
+    /// The 80 words of a row, from 1, of what is active: of the page or, while the line is active, of the line, which
+    /// is row 1. Refused with `Broken`, `WrongSize`, or `OffPage` where what is active has no such row.
+    ///
+    /// ```
+    /// use pankholim::{Line, Record, Refusal};
+    ///
+    /// let mut page = [0; 24 * 80];
+    /// let mut line = Line::new();
+    /// let mut record = Record::start(24, &mut page, &mut line).unwrap();
+    /// assert_eq!(record.row(&page, &line, 24), Ok(&page[23 * 80..]));
+    ///
+    /// // There is a line, and it is active.
+    /// let input = b"\x1b[1$~\x1b[1$}up";
+    /// record.feed(&mut page, &mut line, input, &mut []).unwrap();
+    /// assert_eq!(record.row(&page, &line, 1), Ok(&line[..]));
+    /// assert_eq!(record.row(&page, &line, 24), Err(Refusal::OffPage));
+    /// ```
+    pub fn row<'a>(
+        &self,
+        page: &'a [u16],
+        line: &'a [u16],
+        row: usize,
+    ) -> Result<&'a [u16], Refusal> {
+        let mut part = ffi::Part {
+            cells: ptr::null(),
+            length: 0,
+        };
+        let number = unsafe {
+            ffi::pankholim_row(
+                self.raw.clone(),
+                page.as_ptr(),
+                page.len(),
+                line.as_ptr(),
+                line.len(),
+                row,
+                &mut part,
+            )
+        };
+        // Unrefused, the part lies in the page or in the line, and so lives as long as both.
+        Answer::of_call(number).map(|_| unsafe { slice::from_raw_parts(part.cells, part.length) })
+    }
+
+    /// The page's cell at a row and column, both from 1, whatever is active. Refused with `Broken`, `WrongSize` or
+    /// `OffPage`.
     pub fn read(&self, page: &[u16], row: usize, column: usize) -> Result<Cell, Refusal> {
         let mut word = 0;
         let number = unsafe {
@@ -161,7 +237,8 @@ impl Record {
         Answer::of_call(number).map(|_| Cell::from_word(word))
     }
 
-    /// The cursor: its place on the page, whether a wrap is due, and whether it is shown. Refused with `Broken`.
+    /// The page's cursor, whatever is active: its place, whether a wrap is due, and whether it is shown. Refused with
+    /// `Broken`.
     pub fn cursor(&self) -> Result<Cursor, Refusal> {
         let (mut row, mut column, mut wrap, mut shown) = (0, 0, 0, 0);
         let number = unsafe {
@@ -180,7 +257,7 @@ impl Record {
 impl Default for Record {
     fn default() -> Record {
         Record {
-            raw: ffi::Terminal { opaque: [0; 12] },
+            raw: ffi::Terminal { opaque: [0; 15] },
         }
     }
 }

@@ -1,12 +1,14 @@
-//! A terminal with its page.
+//! A terminal with its page and its status line.
 
 use crate::answer::Refusal;
 use crate::cell::Cell;
+use crate::line::Line;
 use crate::page::{page_text, PageSize, COLUMNS};
-use crate::record::{Cursor, Fed, Record};
+use crate::record::{Changed, Cursor, Fed, Record};
 use crate::rows::RowSet;
+use std::mem;
 
-/// A record and the page that goes with it.
+/// A record and the page and status line that go with it.
 ///
 /// ```
 /// use pankholim::{PageSize, Terminal};
@@ -23,18 +25,28 @@ use crate::rows::RowSet;
 pub struct Terminal {
     record: Record,
     page: Box<[u16]>,
+    line: Line,
     size: PageSize,
+    /// What the record was asked for and nobody took yet.
+    noted: Changed,
 }
 
-/// How the page and the record come to be whole: the one starts the other, and nothing else writes them.
-const WHOLE: &str = "the record is whole and the page its own";
+/// How record, page and line come to be whole: a start makes them, and nothing but the record's calls writes them.
+const WHOLE: &str = "the record is whole, and page and line are its own";
 
 impl Terminal {
-    /// A fresh terminal: every cell blank, the cursor in row 1, column 1.
+    /// A fresh terminal: every cell blank, the cursor in row 1, column 1, no status line.
     pub fn new(size: PageSize) -> Terminal {
         let mut page = vec![0; size.cells()].into_boxed_slice();
-        let record = Record::start(size.rows(), &mut page).expect(WHOLE);
-        Terminal { record, page, size }
+        let mut line = Line::new();
+        let record = Record::start(size.rows(), &mut page, &mut line).expect(WHOLE);
+        Terminal {
+            record,
+            page,
+            line,
+            size,
+            noted: Changed::default(),
+        }
     }
 
     /// The size of the page.
@@ -45,7 +57,9 @@ impl Terminal {
     /// Feeds bytes from the modem, until the input ends or a reply does not fit. Sequences may be cut anywhere
     /// between two calls. [`REPLY_ROOM`](crate::REPLY_ROOM) bytes of room guarantee that a byte is read.
     pub fn feed(&mut self, input: &[u8], reply: &mut [u8]) -> Fed {
-        self.record.feed(&mut self.page, input, reply).expect(WHOLE)
+        self.record
+            .feed(&mut self.page, &mut self.line, input, reply)
+            .expect(WHOLE)
     }
 
     /// Feeds all bytes, and hands the replies to `send` as they fall due.
@@ -61,23 +75,49 @@ impl Terminal {
         }
     }
 
-    /// The rows where a step changed a cell since this was last asked, or since the start; then none is noted
-    /// any more.
-    pub fn take_changed_rows(&mut self) -> RowSet {
-        self.record.ask().expect(WHOLE)
+    fn ask(&mut self) {
+        let more = self.record.ask().expect(WHOLE);
+        self.noted.rows = self.noted.rows | more.rows;
+        self.noted.line |= more.line;
     }
 
-    /// The cell at a row and column, both from 1. Refused with `OffPage` where there is none.
+    /// The rows of the page where a step changed a cell since this was last asked, or since the start; then none is
+    /// noted any more. Whether the line changed stays noted.
+    pub fn take_changed_rows(&mut self) -> RowSet {
+        self.ask();
+        mem::take(&mut self.noted.rows)
+    }
+
+    /// Did a step change a cell of the status line since this was last asked, or since the start? Then that is
+    /// noted no more. The changed rows stay noted.
+    ///
+    /// ```
+    /// use pankholim::{PageSize, Terminal};
+    ///
+    /// let mut terminal = Terminal::new(PageSize::Rows24);
+    /// terminal.feed_all(b"page\x1b[1$~\x1b[1$}signal -61 dBm\x1b[0$}", |_reply| {});
+    /// assert!(terminal.take_line_changed() && !terminal.take_line_changed());
+    /// assert_eq!(terminal.take_changed_rows().len(), 1);
+    /// assert_eq!(terminal.line().text(), "signal -61 dBm");
+    /// ```
+    pub fn take_line_changed(&mut self) -> bool {
+        self.ask();
+        mem::take(&mut self.noted.line)
+    }
+
+    /// The page's cell at a row and column, both from 1, whatever is active. Refused with `OffPage` where there is
+    /// none.
     pub fn cell(&self, row: usize, column: usize) -> Result<Cell, Refusal> {
         self.record.read(&self.page, row, column)
     }
 
-    /// The cursor: its place on the page, also with origin mode on, whether a wrap is due, and whether it is shown.
+    /// The page's cursor, whatever is active: its place, also with origin mode on, whether a wrap is due, and whether
+    /// it is shown.
     pub fn cursor(&self) -> Cursor {
         self.record.cursor().expect(WHOLE)
     }
 
-    /// The text of `length` cells of a row, from a column on, without the spaces at its end. Refused with
+    /// The text of `length` cells of a row of the page, from a column on, without the spaces at its end. Refused with
     /// `OffPage` where one of the cells is off the page.
     pub fn field(&self, row: usize, column: usize, length: usize) -> Result<String, Refusal> {
         if length > COLUMNS {
@@ -87,12 +127,23 @@ impl Terminal {
         for (offset, word) in cells[..length].iter_mut().enumerate() {
             *word = self.cell(row, column.saturating_add(offset))?.word();
         }
-        let mut line = page_text(&cells);
-        line.pop();
-        Ok(line)
+        let mut text = page_text(&cells);
+        text.pop();
+        Ok(text)
     }
 
-    /// The page as text: a line for each row, spaces at its end off, closed by a line feed.
+    /// The words of a row, from 1, of what is active: of the page or, while the status line is active, of that, which
+    /// is row 1. Refused with `OffPage` where there is no such row.
+    pub fn row(&self, row: usize) -> Result<&[u16], Refusal> {
+        self.record.row(&self.page, &self.line, row)
+    }
+
+    /// The status line, whether it is active or not.
+    pub fn line(&self) -> &Line {
+        &self.line
+    }
+
+    /// The page as text: a line of text for each row, spaces at its end off, closed by a line feed.
     pub fn text(&self) -> String {
         page_text(&self.page)
     }

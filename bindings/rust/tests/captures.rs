@@ -1,7 +1,7 @@
 //! Each capture gives its text, however it is cut.
 
 mod common;
-use common::captures;
+use common::{captures, line_text};
 use pankholim::{PageSize, Terminal, REPLY_ROOM};
 
 #[test]
@@ -10,6 +10,7 @@ fn at_once() {
         let mut terminal = Terminal::new(PageSize::Rows24);
         terminal.feed_all(&bytes, |_| {});
         assert_eq!(terminal.text(), text, "{name}");
+        assert_eq!(terminal.line().text(), line_text(&name), "{name}");
     }
 }
 
@@ -26,6 +27,7 @@ fn in_pieces_with_little_room() {
                 }
             }
             assert_eq!(terminal.text(), text, "{name} in pieces of {piece}");
+            assert_eq!(terminal.line().text(), line_text(&name), "{name}");
         }
     }
 }

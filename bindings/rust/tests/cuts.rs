@@ -9,6 +9,7 @@ struct Seen {
     terminal: Terminal,
     sent: Vec<u8>,
     changed: RowSet,
+    line_changed: bool,
 }
 
 impl Seen {
@@ -17,6 +18,7 @@ impl Seen {
             terminal: Terminal::new(size),
             sent: Vec::new(),
             changed: RowSet::EMPTY,
+            line_changed: false,
         }
     }
 
@@ -26,6 +28,7 @@ impl Seen {
         let fed = self.terminal.feed(input, &mut reply);
         self.sent.extend_from_slice(&reply[..fed.replied]);
         self.changed = self.changed | self.terminal.take_changed_rows();
+        self.line_changed |= self.terminal.take_line_changed();
         fed.read
     }
 
@@ -33,6 +36,10 @@ impl Seen {
         assert_eq!(self.terminal.words(), other.terminal.words());
         assert_eq!(self.sent, other.sent);
         assert_eq!(self.changed, other.changed);
+        assert_eq!(self.terminal.line(), other.terminal.line());
+        assert_eq!(self.line_changed, other.line_changed);
+        assert_eq!(self.terminal.row(1), other.terminal.row(1));
+        assert_eq!(self.terminal.row(2), other.terminal.row(2));
     }
 }
 
@@ -53,9 +60,10 @@ fn one_cut_anywhere() {
 #[test]
 fn many_cuts_with_any_room() {
     let mut random = Random::new();
+    let mut lines = 0;
     for round in 0..150 {
         let size = PageSize::ALL[round % 3];
-        let input: Vec<u8> = (0..600).map(|_| random.byte()).collect();
+        let input = random.stream(600);
         let mut whole = Seen::new(size);
         assert_eq!(whole.feed(&input, 16384), input.len());
         let mut parts = Seen::new(size);
@@ -67,7 +75,9 @@ fn many_cuts_with_any_room() {
             rest = &rest[read..];
         }
         parts.same_as(&whole);
+        lines += whole.line_changed as usize;
     }
+    assert!(lines > 75);
 }
 
 #[test]

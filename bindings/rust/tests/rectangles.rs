@@ -1,10 +1,11 @@
 //! The functions on rectangles, from call to call: fill, copy, change and reverse attributes, erase, selective erase.
 
-use pankholim::{Cell, Record};
+use pankholim::{Cell, Line, Record};
 
 fn feed_apart(record: &mut Record, page: &mut [u16], bytes: &[u8]) {
+    let mut line = Line::new();
     for &byte in bytes {
-        record.feed(page, &[byte], &mut []).unwrap();
+        record.feed(page, &mut line, &[byte], &mut []).unwrap();
     }
 }
 
@@ -18,7 +19,7 @@ fn words(record: &Record, page: &[u16], row: usize) -> Vec<u16> {
 #[test]
 fn a_meter_is_painted() {
     let mut page = [0; 24 * 80];
-    let mut record = Record::start(24, &mut page).unwrap();
+    let mut record = Record::start(24, &mut page, &mut Line::new()).unwrap();
     let mut row = |bytes: &[u8], row: usize| {
         feed_apart(&mut record, &mut page, bytes);
         words(&record, &page, row)

@@ -1,7 +1,16 @@
 //! What is refused, and that all is left then.
 
 use pankholim::{page_text, text_len, write_text};
-use pankholim::{Answer, Cell, PageSize, Record, Refusal, RowSet, Terminal, TextRoom, REPLY_ROOM};
+use pankholim::{Answer, Cell, Changed, Line, PageSize, Record, Refusal, RowSet};
+use pankholim::{Terminal, TextRoom, REPLY_ROOM};
+
+/// Only rows of the page changed.
+fn rows_alone(bits: u64) -> Changed {
+    Changed {
+        rows: RowSet::from_bits(bits),
+        line: false,
+    }
+}
 
 #[test]
 fn starts() {
@@ -10,8 +19,10 @@ fn starts() {
         let mut page = [0x1234; 48 * 80];
         for cells in [0, 80, 1919, 1920, 1921, 2880, 3840] {
             let page = &mut page[..cells];
+            let mut line = Line::new();
             page.fill(0x1234);
-            let started = Record::start(rows, page);
+            line.fill(0x1234);
+            let started = Record::start(rows, page, &mut line);
             if ![24, 36, 48].contains(&rows) {
                 assert_eq!(started.err(), Some(Refusal::Broken));
             } else if cells != 80 * rows {
@@ -19,9 +30,11 @@ fn starts() {
             } else {
                 assert!(started.is_ok());
                 assert!(page.iter().all(|&word| word == Cell::BLANK.word()));
+                assert_eq!(line, Line::new());
                 continue;
             }
             assert!(page.iter().all(|&word| word == 0x1234));
+            assert!(line.iter().all(|&word| word == 0x1234));
         }
     }
 }
@@ -29,40 +42,57 @@ fn starts() {
 #[test]
 fn refused_starts_leave_the_record() {
     let mut page = [0; 1920];
-    let mut record = Record::start(24, &mut page).unwrap();
-    record.feed(&mut page, b"Hi\x1b[5", &mut []).unwrap();
-    let before = (record.to_bytes(), page);
-    for (rows, cells) in [(25, 1920), (280, 1920), (24, 1919), (36, 1920), (0, 0)] {
-        assert!(record.restart(rows, &mut page[..cells]).is_err());
-        assert_eq!((record.to_bytes(), page), before);
+    let mut line = Line::new();
+    let mut record = Record::start(24, &mut page, &mut line).unwrap();
+    record
+        .feed(&mut page, &mut line, b"Hi\x1b[5", &mut [])
+        .unwrap();
+    let before = (record.to_bytes(), page, line.clone());
+    for (rows, cells, line_cells) in [
+        (25, 1920, 80),
+        (280, 1920, 80),
+        (24, 1919, 80),
+        (36, 1920, 80),
+        (24, 1920, 79),
+        (24, 1920, 0),
+        (0, 0, 0),
+    ] {
+        let (some, part) = (&mut page[..cells], &mut line[..line_cells]);
+        assert!(record.restart(rows, some, part).is_err());
+        assert_eq!((record.to_bytes(), page, line.clone()), before);
     }
     let mut reply = [0; 4];
-    record.feed(&mut page, b"n!", &mut reply).unwrap();
+    record
+        .feed(&mut page, &mut line, b"n!", &mut reply)
+        .unwrap();
     assert_eq!(&reply, b"\x1b[0n");
     assert_eq!(record.read(&page, 1, 3).map(Cell::code), Ok(b'!'));
 
     let mut fresh = [0; 1920];
-    record.restart(24, &mut page).unwrap();
-    let other = Record::start(24, &mut fresh).unwrap();
+    record.restart(24, &mut page, &mut line).unwrap();
+    let other = Record::start(24, &mut fresh, &mut line).unwrap();
     assert_eq!((record.to_bytes(), page), (other.to_bytes(), fresh));
 
     let any = [0xA5; Record::SIZE];
     let mut record = Record::from_bytes(any);
-    assert_eq!(record.restart(25, &mut page), Err(Refusal::Broken));
+    let refused = record.restart(25, &mut page, &mut line);
+    assert_eq!(refused, Err(Refusal::Broken));
     assert_eq!(record.to_bytes(), any);
 }
 
 #[test]
 fn bytes_are_determined_by_the_state() {
+    let input = b"Hi\x1b[1$~\x1b[1$}up\x1b7\x1b[3;7";
     let mut page = [0; 1920];
-    let mut whole = Record::start(24, &mut page).unwrap();
-    whole.feed(&mut page, b"Hi\x1b[3;7", &mut []).unwrap();
+    let mut line = Line::new();
+    let mut whole = Record::start(24, &mut page, &mut line).unwrap();
+    whole.feed(&mut page, &mut line, input, &mut []).unwrap();
     whole.ask().unwrap();
 
     let mut parts = Record::from_bytes([0xA5; Record::SIZE]);
-    parts.restart(24, &mut page).unwrap();
-    for byte in b"Hi\x1b[3;7" {
-        parts.feed(&mut page, &[*byte], &mut []).unwrap();
+    parts.restart(24, &mut page, &mut line).unwrap();
+    for byte in input {
+        parts.feed(&mut page, &mut line, &[*byte], &mut []).unwrap();
         parts.ask().unwrap();
     }
     assert_eq!(parts.to_bytes(), whole.to_bytes());
@@ -72,27 +102,32 @@ fn bytes_are_determined_by_the_state() {
 fn records_that_were_not_started() {
     let mut record = Record::default();
     let mut page = [0x1234; 1920];
+    let mut line = [0x1234; 80];
     let mut reply = [0xEE; 11];
     assert_eq!(
-        record.feed(&mut page, b"A\x1b[6n", &mut reply),
+        record.feed(&mut page, &mut line, b"A\x1b[6n", &mut reply),
         Err(Refusal::Broken)
     );
     assert_eq!(
-        record.feed(&mut page[..3], b"", &mut []),
+        record.feed(&mut page[..3], &mut line[..3], b"", &mut []),
         Err(Refusal::Broken)
     );
+    assert_eq!(record.row(&page, &line, 1), Err(Refusal::Broken));
+    assert_eq!(record.row(&[], &[], 0), Err(Refusal::Broken));
     assert_eq!(record.ask(), Err(Refusal::Broken));
     assert_eq!(record.read(&page, 1, 1), Err(Refusal::Broken));
     assert_eq!(record.read(&[], 0, 0), Err(Refusal::Broken));
     assert_eq!(record.cursor(), Err(Refusal::Broken));
-    assert!(page.iter().all(|&word| word == 0x1234));
+    assert!(page.iter().chain(&line).all(|&word| word == 0x1234));
     assert_eq!(reply, [0xEE; 11]);
 }
 
 #[test]
 fn records_of_any_bytes() {
     let mut blank = [0; 1920];
-    let started = Record::start(24, &mut blank).unwrap().to_bytes();
+    let started = Record::start(24, &mut blank, &mut Line::new())
+        .unwrap()
+        .to_bytes();
     let mut refused = 0;
     for at in 0..Record::SIZE {
         for value in 0..=255 {
@@ -101,15 +136,19 @@ fn records_of_any_bytes() {
             let mut record = Record::from_bytes(bytes);
             assert_eq!(record.to_bytes(), bytes);
             let mut page = blank;
+            let mut line = Line::new();
             let mut reply = [0; 11];
             let cursor = record.cursor();
-            match record.feed(&mut page, b"A\x1b[6n", &mut reply) {
-                Ok(fed) => assert!(fed.is_done() && cursor.is_ok()),
+            let row = record.row(&blank, &line, 1).map(<[u16]>::len);
+            match record.feed(&mut page, &mut line, b"A\x1b[6n", &mut reply) {
+                Ok(fed) => assert!(fed.is_done() && cursor.is_ok() && row == Ok(80)),
                 Err(refusal) => {
                     assert!(refusal != Refusal::OffPage);
                     assert_eq!(cursor.is_err(), refusal == Refusal::Broken);
+                    assert_eq!(row, Err(refusal));
                     assert_eq!(record.to_bytes(), bytes);
                     assert_eq!((page, reply), (blank, [0; 11]));
+                    assert_eq!(line, Line::new());
                     refused += 1;
                 }
             }
@@ -121,19 +160,23 @@ fn records_of_any_bytes() {
 #[test]
 fn records_come_back_from_their_bytes() {
     let mut page = [0; 1920];
-    let mut record = Record::start(24, &mut page).unwrap();
-    record.feed(&mut page, b"\x1b[3;7", &mut []).unwrap();
+    let mut line = Line::new();
+    let mut record = Record::start(24, &mut page, &mut line).unwrap();
+    record
+        .feed(&mut page, &mut line, b"\x1b[3;7", &mut [])
+        .unwrap();
     let mut again = Record::from_bytes(record.to_bytes());
-    again.feed(&mut page, b"7HA", &mut []).unwrap();
+    again.feed(&mut page, &mut line, b"7HA", &mut []).unwrap();
     assert_eq!(again.read(&page, 3, 77).map(Cell::code), Ok(b'A'));
-    assert_eq!(again.ask(), Ok(RowSet::from_bits(4)));
+    assert_eq!(again.ask(), Ok(rows_alone(4)));
 }
 
 #[test]
 fn pages_of_other_lengths() {
     for size in PageSize::ALL {
         let mut page = vec![0; size.cells()];
-        let mut record = Record::start(size.rows(), &mut page).unwrap();
+        let mut line = Line::new();
+        let mut record = Record::start(size.rows(), &mut page, &mut line).unwrap();
         for cells in [0, 1, 80, 1919, 1920, 1921, 2880, 3840, 4000] {
             if cells == size.cells() {
                 continue;
@@ -141,20 +184,22 @@ fn pages_of_other_lengths() {
             let mut other = vec![0x1234; cells];
             let mut reply = [0xEE; 11];
             assert_eq!(
-                record.feed(&mut other, b"A\x1b[6n", &mut reply),
+                record.feed(&mut other, &mut line, b"A\x1b[6n", &mut reply),
                 Err(Refusal::WrongSize)
             );
             assert_eq!(
-                record.feed(&mut other, b"", &mut []),
+                record.feed(&mut other, &mut line, b"", &mut []),
                 Err(Refusal::WrongSize)
             );
+            assert_eq!(record.row(&other, &line, 1), Err(Refusal::WrongSize));
             assert_eq!(record.read(&other, 1, 1), Err(Refusal::WrongSize));
             assert_eq!(record.read(&other, 0, 99), Err(Refusal::WrongSize));
             assert!(other.iter().all(|&word| word == 0x1234));
             assert_eq!(reply, [0xEE; 11]);
         }
-        assert_eq!(record.ask(), Ok(RowSet::EMPTY));
-        assert!(record.feed(&mut page, b"", &mut []).is_ok());
+        assert_eq!(record.ask(), Ok(Changed::default()));
+        assert_eq!(line, Line::new());
+        assert!(record.feed(&mut page, &mut line, b"", &mut []).is_ok());
     }
 }
 

@@ -1,6 +1,6 @@
 //! ESC 7 and ESC 8 save and restore protection and a pending shift, on or off, from call to call.
 
-use pankholim::{Cell, Record};
+use pankholim::{Cell, Line, Record};
 
 const PROTECTIONS: [&[u8]; 2] = [b"\x1b[0\"q", b"\x1b[1\"q"];
 const SHIFTS: [&[u8]; 3] = [b"", b"\x8e", b"\x8f"];
@@ -9,8 +9,9 @@ const SHIFTS: [&[u8]; 3] = [b"", b"\x8e", b"\x8f"];
 const WORDS: [u16; 3] = [0x0061, 0x00E1, 0x01E1];
 
 fn feed_apart(record: &mut Record, page: &mut [u16], bytes: &[u8]) {
+    let mut line = Line::new();
     for &byte in bytes {
-        record.feed(page, &[byte], &mut []).unwrap();
+        record.feed(page, &mut line, &[byte], &mut []).unwrap();
     }
 }
 
@@ -18,7 +19,7 @@ fn feed_apart(record: &mut Record, page: &mut [u16], bytes: &[u8]) {
 fn every_combination_comes_back() {
     for (saved, now) in (0..6).flat_map(|saved| (0..6).map(move |now| (saved, now))) {
         let mut page = [0; 24 * 80];
-        let mut record = Record::start(24, &mut page).unwrap();
+        let mut record = Record::start(24, &mut page, &mut Line::new()).unwrap();
         let mut feed = |bytes: &[u8]| {
             feed_apart(&mut record, &mut page, bytes);
             record.read(&page, 5, 77).map(Cell::word).unwrap()

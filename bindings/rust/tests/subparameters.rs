@@ -1,15 +1,17 @@
 //! Colons between parameters: SGR skips what has subparameters, any other function with one in it is ignored.
 
-use pankholim::{Cell, Record};
+use pankholim::{Cell, Line, Record};
 
 /// A terminal that was fed byte by byte, with what it replied.
 fn fed(bytes: &[u8]) -> (Record, [u16; 24 * 80], usize) {
     let mut page = [0; 24 * 80];
-    let mut record = Record::start(24, &mut page).unwrap();
+    let mut line = Line::new();
+    let mut record = Record::start(24, &mut page, &mut line).unwrap();
     let mut replied = 0;
     for &byte in bytes {
         let mut reply = [0; 11];
-        replied += record.feed(&mut page, &[byte], &mut reply).unwrap().replied;
+        let fed = record.feed(&mut page, &mut line, &[byte], &mut reply);
+        replied += fed.unwrap().replied;
     }
     (record, page, replied)
 }
@@ -33,7 +35,7 @@ fn rendition_obeys_the_others() {
 fn others_are_ignored() {
     let text = b"\x1b[?7h\x1b[1;80Hw";
     for last in 0x40..=0x7E {
-        for before in ["2:", "1;1:5", "?25:", ">:", "1:1$", "2:*"] {
+        for before in ["2:", "1;1:5", "?25:", ">:", "1:1$", "1:$", "2:*"] {
             let bytes = [&text[..], b"\x1b[", before.as_bytes(), &[last]].concat();
             let (record, page, replied) = fed(&bytes);
             let cursor = record.cursor().unwrap();

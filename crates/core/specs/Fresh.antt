@@ -1,4 +1,4 @@
--- The fresh state (SCOPE 1.20 to 1.25), but for the changed rows, of which there are none.
+-- The fresh state (SCOPE 1.20 to 1.25), but for the changed rows, of which there are none, and the line (1.31).
 use mathlib.Core.Bool.{true, false}
 use Prim.Native.Nat.{ℕ}
 use Rattle.cells.specs.Cells.{plain}

@@ -5,3 +5,4 @@ pub mod Geometry
 pub mod Glyphs
 pub mod Modes
 pub mod Effects
+pub mod StatusLine

@@ -1,4 +1,4 @@
--- A whole state (SCOPE 1.9 to 1.17; 1.18, on the changed rows, is the terminal's): a test and a fact for each clause.
+-- A whole state (SCOPE 1.9 to 1.17; 1.18, on the changed rows, is the terminal's) and a whole line (1.28 to 1.30): a test and a fact for each clause.
 use mathlib.Core.Path.{_≡_}
 use mathlib.Core.Bool.{Bool, true, _&&_, _||_}
 use mathlib.Core.List.{List, [], _∷_}
@@ -8,6 +8,8 @@ use Rattle.parser.specs.declared.parser.Parser.{Parser}
 use Rattle.device.specs.declared.cursor.Cursor.{Cursor}
 use Rattle.core.specs.declared.Core.{Core}
 use Rattle.core.specs.declared.Margins.{Margins}
+use Rattle.core.specs.declared.StatusLine.{StatusLine}
+use Rattle.core.specs.declared.Displays.{Displays}
 use Rattle.core.specs.Bounds.{OnPage, Bounded}
 use Rattle.ground.specs.Tests.{between}
 use Rattle.parser.specs.WholeParser.{parserTests, WholeParser}
@@ -32,6 +34,19 @@ coreTests c =
 
 unfoldable pub wholeCore : Core → Bool
 wholeCore c = all (coreTests c) && all (parserTests (c .parser))
+
+-- the same of the line's cursors, and a type when it is active
+abbrev pub lineTests : StatusLine → Bool → List Bool
+lineTests l autowrap =
+    between 1 (l .column) 80
+    ∷ implies (l .wrap) (eqb (l .column) 80 && autowrap)
+    ∷ between 1 (l .saved .column) 80
+    ∷ implies (l .saved .wrap) (eqb (l .saved .column) 80)
+    ∷ implies (l .active) (l .present)
+    ∷ []
+
+unfoldable pub wholeDisplays : Displays → Bool
+wholeDisplays k = wholeCore (k .core) && all (lineTests (k .line) (k .core .modes .autowrap))
 
 -- ---- the same but for the size, a fact for each clause: on a page of any number of rows
 
@@ -66,3 +81,19 @@ WrapOf c = WrapHeld (c .cursor .wrap) (c .cursor .column) (c .modes .autowrap)
 pub record Whole (c : Core) : Type 0 where
   pub parts : Parts c
   pub wrap : WrapOf c
+
+-- ---- the line
+
+pub record WholeLine (l : StatusLine) (autowrap : Bool) : Type 0 where
+  pub low : 1 ≤ l .column
+  pub high : l .column ≤ 80
+  pub wrap : WrapHeld (l .wrap) (l .column) autowrap
+  pub saved-low : 1 ≤ l .saved .column
+  pub saved-high : l .saved .column ≤ 80
+  pub saved-wrap : l .saved .wrap ≡ true → l .saved .column ≡ 80
+  pub typed : l .active ≡ true → l .present ≡ true
+
+-- `wholeDisplays k` is `Whole` of its core, one of the three sizes, and this of its line
+pub record WholeDisplays (k : Displays) : Type 0 where
+  pub core : Whole (k .core)
+  pub line : WholeLine (k .line) (k .core .modes .autowrap)

@@ -1,9 +1,10 @@
-// The state of the terminal but for the changed rows: fresh, whole, where things stop, the cell that a byte puts, and what a
-// byte does to it.
+// The state of the terminal but for what is tracked of cells: fresh, whole, where things stop, the cell that a byte puts, the
+// status line as a page of one row, and what a byte does to it.
 pub mod effects;
 pub mod fresh;
 pub mod geometry;
 pub mod glyphs;
+pub mod status;
 pub mod whole;
 
 use cells::Rendition;
@@ -54,6 +55,32 @@ pub struct Core {
     pub shift: SingleShift,
     pub saved: Saved,
     pub parser: Parser,
+}
+
+// What ESC 7 saves while the status line is active: a line has one row and no origin.
+pub struct LineSaved {
+    pub column: u8,
+    pub wrap: bool,
+    pub rendition: Rendition,
+    pub sets: Sets,
+    pub protected: bool,
+    pub shift: SingleShift,
+}
+
+// The host-writable status line but for its cells: whether there is one (DECSSDT), whether bytes act on it (DECSASD),
+// where its cursor is, and what is saved of it.
+pub struct StatusLine {
+    pub present: bool,
+    pub active: bool,
+    pub column: u8,
+    pub wrap: bool,
+    pub saved: LineSaved,
+}
+
+// All of the state that decides what a byte does: the core, which is the page's, and the line.
+pub struct Displays {
+    pub core: Core,
+    pub line: StatusLine,
 }
 
 // What a byte does: the next core, and the edits of its one or two steps, `Keep` where a step leaves

@@ -1,5 +1,6 @@
 // Whether a state is whole.
 use crate::Core;
+use crate::StatusLine;
 use ground::tests::between;
 use parser::whole::is_whole_parser;
 ghost use mathlib.Core.Path.{_≡_};
@@ -35,4 +36,16 @@ pub fn is_whole(core: Core) -> bool
 {
     let parser = core.parser;
     is_whole_screen(core) & is_whole_parser(parser)
+}
+
+// Of the line, where autowrap is so.
+pub fn is_whole_line(line: StatusLine, autowrap: bool) -> bool
+    ensures { λ r. ⌜ r ≡ all (whole.lineTests line autowrap) ⌝ }
+{
+    let kept = line.saved;
+    between(1, line.column, 80)
+        & (!line.wrap | ((line.column == 80) & autowrap))
+        & between(1, kept.column, 80)
+        & (!kept.wrap | (kept.column == 80))
+        & (!line.active | line.present)
 }

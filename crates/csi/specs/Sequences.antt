@@ -14,13 +14,14 @@ use Rattle.core.specs.declared.Core.{Core}
 use Rattle.core.specs.declared.Decision.{Decision}
 use Rattle.ground.specs.Folds.{folded}
 use Rattle.parser.specs.Params.{param, paramN, paramList, numbers}
-use Rattle.parser.specs.Families.{isPlain, isPrivate, isProtection, isSoftReset, isRectangle, isExtent}
+use Rattle.parser.specs.Families.{isPlain, isPrivate, isProtection, isSoftReset, isDollar, isExtent}
 use Rattle.device.specs.Tabs.{withoutTab, noTabs}
 use Rattle.device.specs.Cursor.{place, up, down, left, right, toColumn, offset}
 use Rattle.core.specs.Fresh.{freshCore}
 use Rattle.core.specs.Geometry.{leftStop, rightStop, topStop, bottomStop, firstRow, lastRow, home}
 use Rattle.core.specs.Modes.{withInsert, withNewline, withOrigin, withAutowrap, withShown}
 use Rattle.rectangles.specs.Functions.{rectangleEdit, selectExtent}
+use Rattle.core.specs.StatusLine.{isLine}
 use Rattle.core.specs.Effects.{withCursor, withMargins, withTabs, withModes, withRendition, withProtected, oneEdit, unedited}
 
 -- ---- moving the cursor
@@ -121,10 +122,10 @@ ansiMode on c v =
 abbrev pub originMode : Bool → Core → Core
 originMode on c = let d = withModes c (withOrigin (c .modes) on) in withCursor d (home d)
 
--- ?6 origin, ?7 autowrap (DECAWM), ?25 cursor shown (DECTCEM)
+-- ?6 origin, which the status line ignores, ?7 autowrap (DECAWM), ?25 cursor shown (DECTCEM)
 abbrev pub decMode : Bool → Core → ℕ → Core
 decMode on c v =
-    cond (eqb v 6) (originMode on c)
+    cond (eqb v 6) (cond (isLine c) c (originMode on c))
     (cond (eqb v 7) (withModes c (withAutowrap (c .modes) on))
     (cond (eqb v 25) (withModes c (withShown (c .modes) on)) c))
 
@@ -251,6 +252,6 @@ sequenced c q mark first second last =
     (cond (isPrivate mark first second) (privateSequence c q last)
     (cond (isProtection mark first second last) (selectProtection c q)
     (cond (isSoftReset mark first second last) (unedited (softReset c))
-    (cond (isRectangle mark first second) (oneEdit c (rectangleEdit c q last))
+    (cond (isDollar mark first second) (oneEdit c (rectangleEdit c q last))
     (cond (isExtent mark first second last) (selectExtent c q)
     (unedited c))))))

@@ -8,6 +8,7 @@ use core::effects::unedited;
 use core::fresh::fresh_saved;
 use core::fresh::plain_rendition;
 use core::geometry::home;
+use core::status::is_line;
 use device::charsets::Sets;
 use device::charsets::SingleShift;
 use parser::params::Params;
@@ -15,6 +16,7 @@ ghost use mathlib.Core.Path.{_≡_};
 ghost use mathlib.Core.Bool.{true, cond, _||_};
 ghost use lib.Dec.{eqb, ltb};
 ghost use Rattle.core.specs.Bounds.{Bounds};
+ghost use Rattle.core.specs.StatusLine.{isLine};
 ghost use Rattle.csi.specs.Sequences as sequences;
 
 // TBC: 0 the tab here, 3 all.
@@ -62,12 +64,22 @@ fn origin_mode(mut core: Core, on: bool) -> Core
     core
 }
 
+// The status line ignores it.
+fn page_origin_mode(core: Core, on: bool) -> Core
+    ensures { λ r. ⌜ r ≡ cond (isLine core) core (sequences.originMode on core) ⌝ }
+{
+    if is_line(core) {
+        return core;
+    }
+    origin_mode(core, on)
+}
+
 // 6 origin, 7 autowrap (DECAWM), 25 cursor shown (DECTCEM).
 fn dec_mode(mut core: Core, value: u16, on: bool) -> Core
     ensures { λ r. ⌜ r ≡ sequences.decMode on core value ⌝ }
 {
     if value == 6 {
-        return origin_mode(core, on);
+        return page_origin_mode(core, on);
     }
     if value == 7 {
         core.modes.autowrap = on;

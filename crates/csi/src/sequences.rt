@@ -23,11 +23,11 @@ use core::Core;
 use core::Decision;
 use core::effects::one_edit;
 use core::effects::unedited;
+use parser::families::is_dollar;
 use parser::families::is_extent;
 use parser::families::is_plain;
 use parser::families::is_private;
 use parser::families::is_protection;
-use parser::families::is_rectangle;
 use parser::families::is_soft_reset;
 use parser::params::Params;
 use rectangles::functions::rectangle_edit;
@@ -96,7 +96,7 @@ pub fn sequence(core: Core, params: Params, mark: u8, first: u8, second: u8, las
     if is_soft_reset(mark, first, second, last) {
         return unedited(soft_reset(core));
     }
-    if is_rectangle(mark, first, second) {
+    if is_dollar(mark, first, second) {
         return one_edit(core, rectangle_edit(core, params, last));
     }
     if is_extent(mark, first, second, last) {

@@ -1,16 +1,17 @@
--- Nothing of the page reaches the modem (SCOPE 8.15), of `pankholim_feed`: the same of what its promise (pankholim/specs/Leaves.antt) says.
+-- Nothing of page and line reaches the modem (SCOPE 8.15), of `pankholim_feed`: the same of what its promise (pankholim/specs/Leaves.antt) says.
 use mathlib.Core.Path.{_≡_}
 use mathlib.Core.Bool.{true}
 use mathlib.Core.List.{List, []}
 use Prim.Native.Nat.{ℕ}
 use lib.ListN.{length, take}
-use Rattle.steps.specs.Whole.{wholeState, rightSize}
+use Rattle.steps.specs.Steps.{Buffers, buffers}
+use Rattle.steps.specs.Whole.{wholeState, rightSizes}
 use Rattle.terminal.specs.Feed.{fed}
 use Rattle.record.specs.declared.Terminal.{Terminal}
 use Rattle.record.specs.Record.{stateOf}
 use Rattle.pankholim.specs.Leaves.{FeedLeaves}
 
--- the record with no changed row, and all else as it is
+-- the record with no changed row and the flag unset, and all else as it is
 abbrev pub untrackedRecord : Terminal → Terminal
 untrackedRecord t = record {
   changed = 0;
@@ -27,19 +28,22 @@ untrackedRecord t = record {
   sets = t .sets;
   saved = t .saved;
   parser = t .parser;
+  status = t .status;
+  flag = 0;
+  unused = t .unused;
 }
 
 -- all that `pankholim_feed` is lent beside its input
 pub record ConsoleForC : Type 0 where
   pub terminal : Terminal
-  pub page : List ℕ
+  pub buffers : Buffers
   pub reply : List ℕ
 
 -- the number that it returns, and what it leaves
 pub record FedForC : Type 0 where
   pub number : ℕ
   pub terminal : Terminal
-  pub page : List ℕ
+  pub buffers : Buffers
   pub reply : List ℕ
   pub read : ℕ
   pub replied : ℕ
@@ -47,29 +51,29 @@ pub record FedForC : Type 0 where
 -- what it promises
 abbrev pub FeedPromise : ConsoleForC → List ℕ → FedForC → Type 0
 FeedPromise a i x =
-    FeedLeaves (a .terminal) (fed (stateOf (a .terminal)) (a .page) i (a .reply)) (x .number) (x .terminal) (x .page) (x .reply) (x .read) (x .replied)
+    FeedLeaves (a .terminal) (fed (stateOf (a .terminal)) (a .buffers) i (a .reply)) (x .number) (x .terminal) (x .buffers) (x .reply) (x .read) (x .replied)
 
--- without the page and the changed rows, and of the reply buffer the bytes sent
+-- without page, line, changed rows and flag, and of the reply buffer the bytes sent
 abbrev pub withoutCellsForC : FedForC → FedForC
 withoutCellsForC x = record {
   number = x .number;
   terminal = untrackedRecord (x .terminal);
-  page = [];
+  buffers = buffers [] [];
   reply = take (x .replied) (x .reply);
   read = x .read;
   replied = x .replied;
 }
 
 abbrev pub afterForC : FedForC → List ℕ → ConsoleForC
-afterForC x o = record { terminal = x .terminal; page = x .page; reply = o }
+afterForC x o = record { terminal = x .terminal; buffers = x .buffers; reply = o }
 
--- Records that differ in nothing but the changed rows, whole both or neither; where they are whole, pages of the right length both or neither;
--- and as much room.
+-- Records that differ in nothing but the changed rows and the line's flag, whole both or neither; where they are whole, pages and lines of the right
+-- length both or neither; and as much room.
 pub record AlikeForC (a b : ConsoleForC) : Type 0 where
   pub records : untrackedRecord (a .terminal) ≡ untrackedRecord (b .terminal)
   pub whole : wholeState (stateOf (a .terminal)) ≡ wholeState (stateOf (b .terminal))
   pub size : wholeState (stateOf (a .terminal)) ≡ true
-      → rightSize (stateOf (a .terminal) .core .rows) (a .page) ≡ rightSize (stateOf (b .terminal) .core .rows) (b .page)
+      → rightSizes (stateOf (a .terminal) .displays .core .rows) (a .buffers) ≡ rightSizes (stateOf (b .terminal) .displays .core .rows) (b .buffers)
   pub room : length (a .reply) ≡ length (b .reply)
 
 pub record SameFedForC (x y : FedForC) : Type 0 where

@@ -83,7 +83,7 @@ pub record StayTen (r : ℕ) (t : Tabs) (c : ℕ) : Type 0 where
   pub set : Ten (withTab t c)
   pub cleared : Ten (withoutTab t c)
   pub none : Ten noTabs
-  pub begun : Ten (fresh r .core .tabs)
+  pub begun : Ten (fresh r .displays .core .tabs)
 
 abbrev pub TenBytes : Type 0
 TenBytes = (r : ℕ) (t : Tabs) (c : ℕ) → Ten t → StayTen r t c
@@ -102,7 +102,7 @@ TabsNone = (d : ℕ) → Column d → isTab noTabs d ≡ false
 
 -- Fresh tabs are at 9, 17 and so on to 73, and at no other of the 80 columns.
 abbrev pub TabsFresh : Type 0
-TabsFresh = (r : ℕ) → tabsUpTo 80 (fresh r .core .tabs) ≡ 9 ∷ 17 ∷ 25 ∷ 33 ∷ 41 ∷ 49 ∷ 57 ∷ 65 ∷ 73 ∷ []
+TabsFresh = (r : ℕ) → tabsUpTo 80 (fresh r .displays .core .tabs) ≡ 9 ∷ 17 ∷ 25 ∷ 33 ∷ 41 ∷ 49 ∷ 57 ∷ 65 ∷ 73 ∷ []
 
 -- HT goes right, to the last column at most, where it stays; no flag is set on the way, and where it stops one is set, or it is the last column.
 pub record FirstRight (t : Tabs) (c last r : ℕ) : Type 0 where

@@ -1,4 +1,4 @@
--- The edges of a whole state (SCOPE 1.9 to 1.18): for each clause states just inside and just outside. A state is a fresh one, of so
+-- The edges of a whole state (SCOPE 1.9 to 1.18, 1.28 to 1.30): for each clause states just inside and just outside. A state is a fresh one, of so
 -- many rows, with the fields changed that are named.
 use mathlib.Core.Path.{_≡_}
 use mathlib.Core.Bool.{Bool, true, false, not, _&&_}
@@ -18,19 +18,21 @@ use Rattle.parser.specs.declared.parser.Parser.{Parser}
 use Rattle.core.specs.declared.Core.{Core}
 use Rattle.core.specs.declared.Modes.{Modes}
 use Rattle.core.specs.declared.Saved.{Saved}
+use Rattle.core.specs.declared.LineSaved.{LineSaved}
+use Rattle.core.specs.declared.StatusLine.{StatusLine}
 use Rattle.steps.specs.declared.State.{State}
 use Rattle.device.specs.Tabs.{noTabs}
 use Rattle.core.specs.Fresh.{freshCore}
 use Rattle.core.specs.Effects.{coreFrom, withCursor, withMargins, withModes, withSaved, savedAt, withParser}
 use Rattle.core.specs.Modes.{withOrigin, withAutowrap}
-use Rattle.core.specs.Whole.{wholeCore}
+use Rattle.core.specs.Whole.{wholeCore, wholeDisplays}
 use Rattle.steps.specs.Whole.{wholeState}
 use Rattle.terminal.specs.Start.{fresh}
 
 -- ---- one field changed
 
 abbrev onCore : (Core → Core) → State → State
-onCore f s = record { core = f (s .core); tracked = s .tracked }
+onCore f s = record { displays = record { core = f (s .displays .core); line = s .displays .line }; tracked = s .tracked }
 
 abbrev pub row : ℕ → State → State
 row r s = onCore (λ c. withCursor c (record { row = r; column = c .cursor .column; wrap = c .cursor .wrap })) s
@@ -57,18 +59,18 @@ abbrev pub savedCursor : ℕ → ℕ → Bool → State → State
 savedCursor r k w s = onCore (λ c. withSaved c (savedAt (c .saved) (record { row = r; column = k; wrap = w }))) s
 
 abbrev pub savedRow : ℕ → State → State
-savedRow r s = savedCursor r (s .core .saved .cursor .column) (s .core .saved .cursor .wrap) s
+savedRow r s = savedCursor r (s .displays .core .saved .cursor .column) (s .displays .core .saved .cursor .wrap) s
 
 abbrev pub savedColumn : ℕ → State → State
-savedColumn k s = savedCursor (s .core .saved .cursor .row) k (s .core .saved .cursor .wrap) s
+savedColumn k s = savedCursor (s .displays .core .saved .cursor .row) k (s .displays .core .saved .cursor .wrap) s
 
 abbrev pub savedWrapDue : State → State
-savedWrapDue s = savedCursor (s .core .saved .cursor .row) (s .core .saved .cursor .column) true s
+savedWrapDue s = savedCursor (s .displays .core .saved .cursor .row) (s .displays .core .saved .cursor .column) true s
 
 -- saved with origin on
 abbrev pub savedOrigin : State → State
 savedOrigin s =
-    let v = s .core .saved in
+    let v = s .displays .core .saved in
     let saved : Saved = record {
       cursor = v .cursor;
       rendition = v .rendition;
@@ -84,46 +86,84 @@ otherParser s q = onCore (λ c. withParser c q) s
 
 abbrev pub phase : Phase → State → State
 phase p s =
-    let q = s .core .parser in
+    let q = s .displays .core .parser in
     otherParser s (record { phase = p; mark = q .mark; first = q .first; second = q .second; params = q .params })
 
 abbrev pub mark : ℕ → State → State
 mark x s =
-    let q = s .core .parser in
+    let q = s .displays .core .parser in
     otherParser s (record { phase = q .phase; mark = x; first = q .first; second = q .second; params = q .params })
 
 -- the first intermediate, and the second
 abbrev pub first : ℕ → State → State
 first x s =
-    let q = s .core .parser in
+    let q = s .displays .core .parser in
     otherParser s (record { phase = q .phase; mark = q .mark; first = x; second = q .second; params = q .params })
 
 abbrev pub second : ℕ → State → State
 second x s =
-    let q = s .core .parser in
+    let q = s .displays .core .parser in
     otherParser s (record { phase = q .phase; mark = q .mark; first = q .first; second = x; params = q .params })
 
 abbrev withParams : State → Params → State
 withParams s a =
-    let q = s .core .parser in
+    let q = s .displays .core .parser in
     otherParser s (record { phase = q .phase; mark = q .mark; first = q .first; second = q .second; params = a })
 
 -- so many separators: one parameter more is kept, 16 at most
 abbrev pub separators : ℕ → State → State
-separators n s = withParams s (record { separators = n; values = s .core .parser .params .values })
+separators n s = withParams s (record { separators = n; values = s .displays .core .parser .params .values })
 
 -- value i of the sixteen, from 1
 abbrev pub value : ℕ → ℕ → State → State
-value i x s = let a = s .core .parser .params in withParams s (record { separators = a .separators; values = set (a .values) (i - 1) x })
+value i x s = let a = s .displays .core .parser .params in withParams s (record { separators = a .separators; values = set (a .values) (i - 1) x })
 
 -- row 1 is the lowest bit
 abbrev pub changedRows : ℕ → State → State
-changedRows n s = record { core = s .core; tracked = record { changed = n } }
+changedRows n s = record { displays = s .displays; tracked = record { changed = n; flag = s .tracked .flag } }
+
+-- the line's flag set
+abbrev pub flagged : State → State
+flagged s = record { displays = s .displays; tracked = record { changed = s .tracked .changed; flag = true } }
+
+-- ---- the same of the line
+
+abbrev onLine : (StatusLine → StatusLine) → State → State
+onLine f s = record { displays = record { core = s .displays .core; line = f (s .displays .line) }; tracked = s .tracked }
+
+-- there is one; bytes act on it
+abbrev pub typed : State → State
+typed s = onLine (λ l. record { present = true; active = l .active; column = l .column; wrap = l .wrap; saved = l .saved }) s
+
+abbrev pub lineActive : State → State
+lineActive s = onLine (λ l. record { present = l .present; active = true; column = l .column; wrap = l .wrap; saved = l .saved }) s
+
+abbrev pub lineColumn : ℕ → State → State
+lineColumn k s = onLine (λ l. record { present = l .present; active = l .active; column = k; wrap = l .wrap; saved = l .saved }) s
+
+abbrev pub lineWrapDue : State → State
+lineWrapDue s = onLine (λ l. record { present = l .present; active = l .active; column = l .column; wrap = true; saved = l .saved }) s
+
+abbrev withLineSaved : LineSaved → State → State
+withLineSaved v s = onLine (λ l. record { present = l .present; active = l .active; column = l .column; wrap = l .wrap; saved = v }) s
+
+abbrev lineSavedAt : ℕ → Bool → State → State
+lineSavedAt k w s =
+    let v = s .displays .line .saved in
+    withLineSaved (record { column = k; wrap = w; rendition = v .rendition; sets = v .sets; protected = v .protected; shift = v .shift }) s
+
+abbrev pub lineSavedColumn : ℕ → State → State
+lineSavedColumn k s = lineSavedAt k (s .displays .line .saved .wrap) s
+
+abbrev pub lineSavedWrapDue : State → State
+lineSavedWrapDue s = lineSavedAt (s .displays .line .saved .column) true s
+
+-- ---- all else
 
 -- all that the clauses do not name, as it is not when fresh
 abbrev pub allElse : State → State
 allElse s =
-    let c = s .core in
+    let c = s .displays .core in
     let drawn : Rendition = record { bold = true; underline = true; blink = true; reverse = true } in
     let sets : Sets = record { g0 = Latin1; g1 = SpecialGraphics; g2 = Latin1; g3 = Latin1; gl = G3; gr = G0 } in
     let modes : Modes = record {
@@ -136,7 +176,9 @@ allElse s =
       rectangle = true;
     } in
     let saved : Saved = record { cursor = c .saved .cursor; rendition = drawn; origin = true; sets = sets; protected = true; shift = Ss2 } in
-    onCore (λ c. coreFrom (c .rows) (c .cursor) (c .margins) noTabs modes drawn true sets Ss3 saved (c .parser)) s
+    let v = s .displays .line .saved in
+    flagged (withLineSaved (record { column = v .column; wrap = v .wrap; rendition = drawn; sets = sets; protected = true; shift = Ss2 })
+    (onCore (λ c. coreFrom (c .rows) (c .cursor) (c .margins) noTabs modes drawn true sets Ss3 saved (c .parser)) s))
 
 -- ---- the edges, clause by clause
 
@@ -266,6 +308,34 @@ subparameters =
     joining 0x80 (fresh 24) ++ joining 0x80 (phase CsiParam (fresh 24)) ++ joining 0xBC (fresh 24) ++ joining 0xBF (phase CsiOne (first 0x20 (fresh 24)))
     ++ (broken (mark 0x81 (fresh 24)) ∷ broken (mark 0xBB (fresh 24)) ∷ broken (mark 0xC0 (fresh 24)) ∷ [])
 
+-- the line's 1 ≤ column ≤ 80
+abbrev pub lineColumns : State → List Edge
+lineColumns s = broken (lineColumn 0 s) ∷ whole (lineColumn 1 s) ∷ whole (lineColumn 80 s) ∷ broken (lineColumn 81 s) ∷ []
+
+-- its wrap due only in column 80 with autowrap on
+abbrev pub lineWrapping : State → List Edge
+lineWrapping s =
+    whole (autowrap (lineColumn 80 (lineWrapDue s))) ∷ broken (autowrap (lineColumn 79 (lineWrapDue s)))
+    ∷ broken (lineColumn 80 (lineWrapDue s)) ∷ broken (lineColumn 79 (lineWrapDue s))
+    ∷ whole (autowrap (lineColumn 80 s)) ∷ whole (autowrap (lineColumn 79 s))
+    ∷ []
+
+-- its saved column 1 to 80, its saved wrap due only in column 80; autowrap does not matter
+abbrev pub lineSaving : State → List Edge
+lineSaving s =
+    broken (lineSavedColumn 0 s) ∷ whole (lineSavedColumn 1 s) ∷ whole (lineSavedColumn 80 s) ∷ broken (lineSavedColumn 81 s)
+    ∷ whole (lineSavedWrapDue (lineSavedColumn 80 s)) ∷ broken (lineSavedWrapDue (lineSavedColumn 79 s))
+    ∷ whole (autowrap (lineSavedWrapDue (lineSavedColumn 80 s))) ∷ broken (autowrap (lineSavedWrapDue (lineSavedColumn 79 s)))
+    ∷ []
+
+-- the same where the line is active, which asks for a type
+abbrev pub statusLine : List Edge
+statusLine =
+    let on = lineActive (typed (fresh 24)) in
+    lineColumns (fresh 24) ++ lineWrapping (fresh 24) ++ lineSaving (fresh 24)
+    ++ lineColumns on ++ lineWrapping on ++ lineSaving on
+    ++ (whole on ∷ whole (typed (fresh 24)) ∷ broken (lineActive (fresh 24)) ∷ [])
+
 -- no changed row above R
 abbrev pub changes : List Edge
 changes =
@@ -277,17 +347,19 @@ changes =
 
 -- nothing else is asked
 abbrev pub others : List Edge
-others = whole (allElse (fresh 24)) ∷ whole (allElse (fresh 36)) ∷ whole (allElse (fresh 48)) ∷ []
+others =
+    whole (allElse (fresh 24)) ∷ whole (allElse (fresh 36)) ∷ whole (allElse (fresh 48)) ∷ whole (allElse (lineActive (typed (fresh 24)))) ∷ []
 
 abbrev pub table : List Edge
 table =
-    sizes ++ rows ++ columns ++ scrolling ++ wrapping ++ origins ++ saving ++ parameters ++ intermediates ++ marks ++ subparameters ++ changes ++ others
+    sizes ++ rows ++ columns ++ scrolling ++ wrapping ++ origins ++ saving ++ parameters ++ intermediates ++ marks ++ subparameters ++ statusLine ++ changes
+    ++ others
 
 -- ---- the statement
 
 -- a state is as the table has it
 unfoldable pub holds : Edge → Bool
-unfolding freshCore wholeCore wholeState
+unfolding freshCore wholeCore wholeDisplays wholeState
 holds (whole s) = wholeState s
 holds (broken s) = not (wholeState s)
 

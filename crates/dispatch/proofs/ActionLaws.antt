@@ -8,11 +8,14 @@ use types.Run.{OneOf, miss}
 use Rattle.parser.specs.declared.parser.Action.{Action}
 use Rattle.parser.specs.declared.parser.Action.the-variants.{Nothing, Character, Substitute, Control, C1Control, EscapeSequence, ControlSequence}
 use Rattle.parser.proofs.parser.Action as action
+use Rattle.parser.specs.declared.params.Params.{Params}
 use Rattle.core.specs.declared.Core.{Core}
+use Rattle.core.specs.declared.StatusLine.{StatusLine}
 use Rattle.device.specs.declared.sending.Reply.the-variants.{Silent}
 use Rattle.dispatch.specs.Replies.{reply}
 use Rattle.dispatch.specs.Heard.{isIgnored}
 use Rattle.dispatch.specs.WrapDue.{clearsWrap}
+use Rattle.dispatch.specs.Displays.{resetsAll, leavesLine, lineTold}
 
 -- the actions that draw no reply
 abbrev pub silentActions : List ℕ
@@ -53,3 +56,38 @@ never-ignored c (Control b) h = refl
 never-ignored c (C1Control b) h = refl
 never-ignored c (EscapeSequence first second last) h = refl
 never-ignored c (ControlSequence mark first second last) h = absurd (miss takenActions 6 tt h)
+
+-- the actions that are no escape sequence
+abbrev pub unescapedActions : List ℕ
+unescapedActions = 0 ∷ 1 ∷ 2 ∷ 3 ∷ 4 ∷ 6 ∷ []
+
+pub no-reset : (a : Action) → OneOf unescapedActions (tagOf action.the-type a) → false ≡ resetsAll a
+no-reset Nothing h = refl
+no-reset (Character b) h = refl
+no-reset Substitute h = refl
+no-reset (Control b) h = refl
+no-reset (C1Control b) h = refl
+no-reset (EscapeSequence first second last) h = absurd (miss unescapedActions 5 tt h)
+no-reset (ControlSequence mark first second last) h = refl
+
+-- the actions that are no sequence
+abbrev pub singleActions : List ℕ
+singleActions = 0 ∷ 1 ∷ 2 ∷ 3 ∷ 4 ∷ []
+
+pub stays : (a : Action) → OneOf singleActions (tagOf action.the-type a) → false ≡ leavesLine a
+stays Nothing h = refl
+stays (Character b) h = refl
+stays Substitute h = refl
+stays (Control b) h = refl
+stays (C1Control b) h = refl
+stays (EscapeSequence first second last) h = absurd (miss singleActions 5 tt h)
+stays (ControlSequence mark first second last) h = absurd (miss singleActions 6 tt h)
+
+pub tells-nothing : (a : Action) (q : Params) (l : StatusLine) → OneOf singleActions (tagOf action.the-type a) → l ≡ lineTold a q l
+tells-nothing Nothing q l h = refl
+tells-nothing (Character b) q l h = refl
+tells-nothing Substitute q l h = refl
+tells-nothing (Control b) q l h = refl
+tells-nothing (C1Control b) q l h = refl
+tells-nothing (EscapeSequence first second last) q l h = absurd (miss singleActions 5 tt h)
+tells-nothing (ControlSequence mark first second last) q l h = absurd (miss singleActions 6 tt h)

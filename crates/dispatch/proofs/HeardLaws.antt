@@ -14,14 +14,14 @@ use Rattle.vt.specs.Controls.{controlled, c1Controlled}
 use Rattle.vt.specs.Escapes.{escaped}
 use Rattle.core.specs.Effects.{oneEdit, unedited}
 use Rattle.parser.specs.Params.{param, member}
-use Rattle.parser.specs.Families.{isPlain, isPrivate, isProtection, isSoftReset, isRectangle, isExtent}
+use Rattle.parser.specs.Families.{isPlain, isPrivate, isProtection, isSoftReset, isDollar, isExtent}
 use Rattle.page.specs.declared.Edit.{Edit}
 use Rattle.rectangles.specs.Areas.{areaAt, isTaken}
 use Rattle.rectangles.specs.Functions.{rectangleEdit, selectExtent}
 use Rattle.csi.specs.Sequences.{marginsTaken, selectProtection, softReset, plainSequence, privateSequence, sequenced}
 use Rattle.ground.proofs.TestLaws.{or-left, or-right, either, at-number}
 use Rattle.dispatch.specs.Heard.{controls, c1Controls, plainEscapes, names94, listedEscape, plainFinals, privateFinals}
-use Rattle.dispatch.specs.Heard.{rectangleFinals, isSecondary, listedRest, listedSequence}
+use Rattle.dispatch.specs.Heard.{dollarFinals, isSecondary, listedRest, listedSequence}
 use Rattle.dispatch.specs.Heard.{isListed, plainIgnored, privateIgnored, ignoredSequence, isIgnored, unlessIgnored, isHeard, heard}
 use Rattle.dispatch.specs.WrapDue.{clearsWrap}
 use Rattle.dispatch.specs.Replies.{plainReply, privateReply, reply, replyTo}
@@ -84,9 +84,9 @@ plain-unedited c q last h = simp (other plainFinals last h)
 private-unedited : (c : Core) (q : Params) (last : ℕ) → member last privateFinals ≡ false → privateSequence c q last ≡ unedited c
 private-unedited c q last h = simp (other privateFinals last h)
 
-rectangle-unedited : (c : Core) (q : Params) (last : ℕ) → member last rectangleFinals ≡ false → oneEdit c (rectangleEdit c q last) ≡ unedited c
+rectangle-unedited : (c : Core) (q : Params) (last : ℕ) → member last dollarFinals ≡ false → oneEdit c (rectangleEdit c q last) ≡ unedited c
 rectangle-unedited c q last h =
-    either (λ (e : Edit). oneEdit c e ≡ unedited c) (isTaken (areaAt c q (cond (eqb last 0x78) 1 0))) (λ _. simp (other rectangleFinals last h)) (λ _. refl)
+    either (λ (e : Edit). oneEdit c e ≡ unedited c) (isTaken (areaAt c q (cond (eqb last 0x78) 1 0))) (λ _. simp (other dollarFinals last h)) (λ _. refl)
 
 sequence-unedited : (c : Core) (q : Params) (mark first second last : ℕ) → listedSequence mark first second last ≡ false
     → sequenced c q mark first second last ≡ unedited c
@@ -94,10 +94,10 @@ unfolding sequenced
 sequence-unedited c q mark first second last =
     go (isPlain mark first second) (isPrivate mark first second)
     (isSecondary mark first second last) (isProtection mark first second last) (isSoftReset mark first second last)
-    (isRectangle mark first second) (isExtent mark first second last)
+    (isDollar mark first second) (isExtent mark first second last)
   where
     go : (i j s p r x e : Bool)
-        → cond i (member last plainFinals) (cond j (member last privateFinals) (s || (p || (r || ((x && member last rectangleFinals) || e))))) ≡ false
+        → cond i (member last plainFinals) (cond j (member last privateFinals) (s || (p || (r || ((x && member last dollarFinals) || e))))) ≡ false
         → cond i (plainSequence c q last) (cond j (privateSequence c q last) (cond p (selectProtection c q) (cond r (unedited (softReset c))
         (cond x (oneEdit c (rectangleEdit c q last)) (cond e (selectExtent c q) (unedited c)))))) ≡ unedited c
     go true j s p r x e h = plain-unedited c q last h
@@ -105,7 +105,7 @@ sequence-unedited c q mark first second last =
     go false false true p r x e h = absurd (false≢true (sym h))
     go false false false true r x e h = absurd (false≢true (sym h))
     go false false false false true x e h = absurd (false≢true (sym h))
-    go false false false false false true e h = rectangle-unedited c q last (or-left (member last rectangleFinals) e h)
+    go false false false false false true e h = rectangle-unedited c q last (or-left (member last dollarFinals) e h)
     go false false false false false false e h = rw h
 
 pub unlisted-unedited : (c : Core) (a : Action) → isListed a ≡ false → effect c a ≡ unedited c

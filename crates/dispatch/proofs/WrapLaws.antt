@@ -10,9 +10,9 @@ use Rattle.parser.specs.declared.parser.Action.{Action}
 use Rattle.parser.specs.declared.parser.Action.the-variants.{Nothing}
 use Rattle.core.specs.declared.Core.{Core}
 use Rattle.parser.specs.Params.{member}
-use Rattle.parser.specs.Families.{isProtection, isSoftReset, isRectangle, isExtent}
+use Rattle.parser.specs.Families.{isProtection, isSoftReset, isDollar, isExtent}
 use Rattle.ground.proofs.TestLaws.{and-left, and-right, at-number}
-use Rattle.dispatch.specs.Heard.{plainEscapes, listedEscape, privateFinals, rectangleFinals, isSecondary, listedRest, isListed, isIgnored}
+use Rattle.dispatch.specs.Heard.{plainEscapes, listedEscape, privateFinals, dollarFinals, isSecondary, listedRest, isListed, isIgnored}
 use Rattle.dispatch.specs.WrapDue.{keepingEscapes, escapeKeeps, privateKeeps, otherKeeps, keepsWrap, clearsWrap}
 
 -- ---- two tests that agree at each number below n
@@ -58,9 +58,9 @@ escape-clears first second last l =
         ≡ (listedEscape x second last && not (escapeKeeps x last))
 
 -- with ?, all but J, K, h and l
-pub private-rest : (q : Params) (last : ℕ) → (last ≡ 0x4A → ⊥) → (last ≡ 0x4B → ⊥) → (last ≡ 0x68 → ⊥) → (last ≡ 0x6C → ⊥)
-    → false ≡ (member last privateFinals && not (privateKeeps q last))
-private-rest q last n1 n2 n3 n4 =
+pub private-rest : (c : Core) (q : Params) (last : ℕ) → (last ≡ 0x4A → ⊥) → (last ≡ 0x4B → ⊥) → (last ≡ 0x68 → ⊥) → (last ≡ 0x6C → ⊥)
+    → false ≡ (member last privateFinals && not (privateKeeps c q last))
+private-rest c q last n1 n2 n3 n4 =
     simp ne-eqb
     (go (eqb last 0x67) (eqb last 0x6D) (eqb last 0x6E) (eqb last 0x63))
   where
@@ -78,12 +78,12 @@ pub others-clear : (mark first second last : ℕ) → isSoftReset mark first sec
 others-clear mark first second last =
     at-number P first 0x21 (simp (and-false, and-true, or-false))
     (λ n. rw (ne-eqb first 0x21 n) (simp and-false
-    (go (isSecondary mark first second last) (isProtection mark first second last) (isRectangle mark first second) (isExtent mark first second last))))
+    (go (isSecondary mark first second last) (isProtection mark first second last) (isDollar mark first second) (isExtent mark first second last))))
   where
     P : ℕ → Type 0
     P x = isSoftReset mark x second last ≡ ((isSecondary mark x second last || listedRest mark x second last) && not (otherKeeps mark x second last))
 
-    go : (s p x e : Bool) → false ≡ ((s || (p || ((x && member last rectangleFinals) || e))) && not ((s || p) || (x || e)))
+    go : (s p x e : Bool) → false ≡ ((s || (p || ((x && member last dollarFinals) || e))) && not ((s || p) || (x || e)))
     go true p x e = refl
     go false true x e = refl
     go false false true e = simp and-false
@@ -97,10 +97,10 @@ reset-clears mark first second last e =
 
 -- ---- the policy, of what is not ignored
 
-pub clears-listed : (c : Core) (a : Action) → isIgnored c a ≡ false → (isListed a && not (keepsWrap (c .parser .params) a)) ≡ clearsWrap c a
+pub clears-listed : (c : Core) (a : Action) → isIgnored c a ≡ false → (isListed a && not (keepsWrap c a)) ≡ clearsWrap c a
 unfolding clearsWrap
 clears-listed c a e = rw e (go (isListed a))
   where
-    go : (t : Bool) → (t && not (keepsWrap (c .parser .params) a)) ≡ not (keepsWrap (c .parser .params) (cond (t && true) a Nothing))
+    go : (t : Bool) → (t && not (keepsWrap c a)) ≡ not (keepsWrap c (cond (t && true) a Nothing))
     go true = refl
     go false = refl

@@ -8,8 +8,9 @@ use Rattle.parser.specs.declared.params.Params.{Params}
 use Rattle.parser.specs.declared.parser.Action.{Action}
 use Rattle.parser.specs.declared.parser.Action.the-variants.{Nothing, Character, Substitute, Control, C1Control, EscapeSequence, ControlSequence}
 use Rattle.core.specs.declared.Core.{Core}
+use Rattle.core.specs.StatusLine.{isLine}
 use Rattle.parser.specs.Params.{param, member}
-use Rattle.parser.specs.Families.{isPlain, isPrivate, isProtection, isSoftReset, isRectangle, isExtent}
+use Rattle.parser.specs.Families.{isPlain, isPrivate, isProtection, isSoftReset, isDollar, isExtent}
 use Rattle.csi.specs.Sequences.{marginsTaken}
 
 -- ---- what is listed
@@ -56,15 +57,15 @@ privateFinals = 0x4A ∷ 0x4B ∷ 0x68 ∷ 0x6C ∷ 0x6E ∷ []
 abbrev pub isSecondary : ℕ → ℕ → ℕ → ℕ → Bool
 isSecondary mark first second last = (eqb mark 0x3E && (eqb first 0 && eqb second 0)) && eqb last 0x63
 
--- CSI $ r, t, v, x, z, {
-abbrev pub rectangleFinals : List ℕ
-rectangleFinals = 0x72 ∷ 0x74 ∷ 0x76 ∷ 0x78 ∷ 0x7A ∷ 0x7B ∷ []
+-- CSI $ r, t, v, x, z, {, on rectangles; }, ~, of the status line
+abbrev pub dollarFinals : List ℕ
+dollarFinals = 0x72 ∷ 0x74 ∷ 0x76 ∷ 0x78 ∷ 0x7A ∷ 0x7B ∷ 0x7D ∷ 0x7E ∷ []
 
--- CSI " q, CSI ! p, those on rectangles and CSI * x
+-- CSI " q, CSI ! p, those with $ and CSI * x
 abbrev pub listedRest : ℕ → ℕ → ℕ → ℕ → Bool
 listedRest mark first second last =
     isProtection mark first second last || (isSoftReset mark first second last
-    || ((isRectangle mark first second && member last rectangleFinals) || isExtent mark first second last))
+    || ((isDollar mark first second && member last dollarFinals) || isExtent mark first second last))
 
 abbrev pub listedSequence : ℕ → ℕ → ℕ → ℕ → Bool
 listedSequence mark first second last =
@@ -87,12 +88,13 @@ isListed (ControlSequence mark first second last) = listedSequence mark first se
 abbrev pub insideMargins : Core → Bool
 insideMargins c = leb (c .margins .top) (c .cursor .row) && leb (c .cursor .row) (c .margins .bottom)
 
--- J and K with another selector than 0, 1, 2; @, L, M and P outside T to B; r unless top < bottom
+-- J and K with another selector than 0, 1, 2; @, L, M and P outside T to B, L and M on the status line; r unless top < bottom, so there too
 abbrev pub plainIgnored : Core → Params → ℕ → Bool
 plainIgnored c q last =
     cond (member last (0x4A ∷ 0x4B ∷ [])) (ltb 2 (param q 0))
-    (cond (member last (0x40 ∷ 0x4C ∷ 0x4D ∷ 0x50 ∷ [])) (not (insideMargins c))
-    (eqb last 0x72 && not (marginsTaken c q)))
+    (cond (member last (0x40 ∷ 0x50 ∷ [])) (not (insideMargins c))
+    (cond (member last (0x4C ∷ 0x4D ∷ [])) (isLine c || not (insideMargins c))
+    (eqb last 0x72 && not (marginsTaken c q))))
 
 -- ? J and ? K likewise
 abbrev pub privateIgnored : Params → ℕ → Bool

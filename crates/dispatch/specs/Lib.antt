@@ -2,3 +2,4 @@ pub mod Heard
 pub mod WrapDue
 pub mod Replies
 pub mod Decide
+pub mod Displays

@@ -1,6 +1,6 @@
 -- Wrap due (SCOPE 6): the one policy, over what is heard. It is a list of what keeps wrap due; all others clear
 -- it, even where they change nothing else. What is ignored or not listed, what only moves the parser, and CAN are nothing, and keep it.
-use mathlib.Core.Bool.{Bool, true, false, cond, not, _||_}
+use mathlib.Core.Bool.{Bool, true, false, cond, not, _&&_, _||_}
 use mathlib.Core.List.{List, [], _∷_}
 use Prim.Native.Nat.{ℕ}
 use lib.Dec.{eqb}
@@ -10,8 +10,9 @@ use Rattle.parser.specs.declared.parser.Action.the-variants.{Nothing, Character
 use Rattle.core.specs.declared.Core.{Core}
 use Rattle.core.specs.declared.Decision.{Decision}
 use Rattle.parser.specs.Params.{paramList, member}
-use Rattle.parser.specs.Families.{isPlain, isPrivate, isProtection, isRectangle, isExtent}
+use Rattle.parser.specs.Families.{isPlain, isPrivate, isProtection, isDollar, isExtent}
 use Rattle.device.specs.Cursor.{noWrap}
+use Rattle.core.specs.StatusLine.{isLine}
 use Rattle.core.specs.Effects.{withCursor}
 use Rattle.dispatch.specs.Heard.{isSecondary, heard}
 
@@ -38,36 +39,40 @@ escapeKeeps first last = cond (eqb first 0) (member last keepingEscapes) (member
 abbrev pub keepingFinals : List ℕ
 keepingFinals = 0x67 ∷ 0x68 ∷ 0x6C ∷ 0x6D ∷ 0x6E ∷ 0x63 ∷ []
 
+-- ?6, which the status line ignores
+abbrev pub setsOrigin : Core → Params → Bool
+setsOrigin c q = not (isLine c) && member 6 (paramList q)
+
 -- with ? too; but ?6 and turning autowrap off clear it
-abbrev pub privateKeeps : Params → ℕ → Bool
-privateKeeps q last =
-    cond (eqb last 0x68) (not (member 6 (paramList q)))
-    (cond (eqb last 0x6C) (not (member 6 (paramList q) || member 7 (paramList q)))
+abbrev pub privateKeeps : Core → Params → ℕ → Bool
+privateKeeps c q last =
+    cond (eqb last 0x68) (not (setsOrigin c q))
+    (cond (eqb last 0x6C) (not (setsOrigin c q || member 7 (paramList q)))
     (member last keepingFinals))
 
--- besides CSI > c, CSI " q, those on rectangles and CSI * x
+-- besides CSI > c, CSI " q, those on rectangles and of the status line, CSI * x
 abbrev pub otherKeeps : ℕ → ℕ → ℕ → ℕ → Bool
 otherKeeps mark first second last =
-    (isSecondary mark first second last || isProtection mark first second last) || (isRectangle mark first second || isExtent mark first second last)
+    (isSecondary mark first second last || isProtection mark first second last) || (isDollar mark first second || isExtent mark first second last)
 
-abbrev pub sequenceKeeps : Params → ℕ → ℕ → ℕ → ℕ → Bool
-sequenceKeeps q mark first second last =
+abbrev pub sequenceKeeps : Core → Params → ℕ → ℕ → ℕ → ℕ → Bool
+sequenceKeeps c q mark first second last =
     cond (isPlain mark first second) (member last keepingFinals)
-    (cond (isPrivate mark first second) (privateKeeps q last)
+    (cond (isPrivate mark first second) (privateKeeps c q last)
     (otherKeeps mark first second last))
 
 -- printing sets it by itself
-abbrev pub keepsWrap : Params → Action → Bool
-keepsWrap q Nothing = true
-keepsWrap q (Character b) = true
-keepsWrap q Substitute = true
-keepsWrap q (Control b) = member b keepingControls
-keepsWrap q (C1Control b) = member b keepingC1
-keepsWrap q (EscapeSequence first second last) = escapeKeeps first last
-keepsWrap q (ControlSequence mark first second last) = sequenceKeeps q mark first second last
+abbrev pub keepsWrap : Core → Action → Bool
+keepsWrap c Nothing = true
+keepsWrap c (Character b) = true
+keepsWrap c Substitute = true
+keepsWrap c (Control b) = member b keepingControls
+keepsWrap c (C1Control b) = member b keepingC1
+keepsWrap c (EscapeSequence first second last) = escapeKeeps first last
+keepsWrap c (ControlSequence mark first second last) = sequenceKeeps c (c .parser .params) mark first second last
 
 unfoldable pub clearsWrap : Core → Action → Bool
-clearsWrap c a = not (keepsWrap (c .parser .params) (heard c a))
+clearsWrap c a = not (keepsWrap c (heard c a))
 
 -- the policy is put into effect
 abbrev pub withWrapPolicy : Bool → Decision → Decision

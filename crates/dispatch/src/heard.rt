@@ -1,11 +1,14 @@
 // What is heard: an action that is ignored here and now is nothing. What is not listed does nothing by itself.
 use core::Core;
+use core::status::is_line;
 use csi::modes::margins_taken;
 use parser::families::is_plain;
 use parser::families::is_private;
 use parser::params::Params;
 use parser::parser::Action;
 ghost use mathlib.Core.Path.{_≡_};
+ghost use mathlib.Core.Bool.{not, _||_};
+ghost use Rattle.core.specs.StatusLine.{isLine};
 ghost use Rattle.dispatch.specs.Heard as hearing;
 
 fn inside_margins(core: Core) -> bool
@@ -15,7 +18,14 @@ fn inside_margins(core: Core) -> bool
     (core.margins.top <= row) & (row <= core.margins.bottom)
 }
 
-// ICH, IL, DL, DCH outside T to B; ED, EL with a selector that is not listed; DECSTBM unless top is above bottom.
+// Outside T to B, and on the status line.
+fn ignores_lines(core: Core) -> bool
+    ensures { λ r. ⌜ r ≡ isLine core || not (hearing.insideMargins core) ⌝ }
+{
+    is_line(core) | !inside_margins(core)
+}
+
+// ICH, IL, DL, DCH outside T to B, IL and DL on the status line; ED, EL with a selector that is not listed; DECSTBM unless top is above bottom.
 fn plain_ignored(core: Core, params: Params, last: u8) -> bool
     ensures { λ r. ⌜ r ≡ hearing.plainIgnored core params last ⌝ }
 {
@@ -23,8 +33,8 @@ fn plain_ignored(core: Core, params: Params, last: u8) -> bool
         0x40 => !inside_margins(core), // ICH
         0x4A => 2 < params.get(0), // ED
         0x4B => 2 < params.get(0), // EL
-        0x4C => !inside_margins(core), // IL
-        0x4D => !inside_margins(core), // DL
+        0x4C => ignores_lines(core), // IL
+        0x4D => ignores_lines(core), // DL
         0x50 => !inside_margins(core), // DCH
         0x72 => !margins_taken(core, params), // DECSTBM
         _ => false,

@@ -1,6 +1,7 @@
 // Wrap due: the one policy, over what is heard. The code tests what clears it, which is less than what keeps it.
 use core::Core;
 use core::Decision;
+use core::status::is_line;
 use parser::families::is_plain;
 use parser::families::is_private;
 use parser::families::is_soft_reset;
@@ -64,27 +65,34 @@ fn plain_clears(last: u8) -> bool
     }
 }
 
+// DECOM, which the status line ignores.
+fn sets_origin(core: Core, params: Params) -> bool
+    ensures { λ r. ⌜ r ≡ wrap.setsOrigin core params ⌝ }
+{
+    !is_line(core) & params.has(6)
+}
+
 // DECSED, DECSEL; ?6 set or reset; ?7 reset.
-fn private_clears(params: Params, last: u8) -> bool
-    ensures { λ r. ⌜ r ≡ member last hearing.privateFinals && not (wrap.privateKeeps params last) ⌝ }
+fn private_clears(core: Core, params: Params, last: u8) -> bool
+    ensures { λ r. ⌜ r ≡ member last hearing.privateFinals && not (wrap.privateKeeps core params last) ⌝ }
 {
     match last {
         0x4A => true, // DECSED
         0x4B => true, // DECSEL
-        0x68 => params.has(6), // SM
-        0x6C => params.has(6) | params.has(7), // RM
+        0x68 => sets_origin(core, params), // SM
+        0x6C => sets_origin(core, params) | params.has(7), // RM
         _ => false,
     }
 }
 
-fn sequence_clears(params: Params, mark: u8, first: u8, second: u8, last: u8) -> bool
-    ensures { λ r. ⌜ r ≡ hearing.listedSequence mark first second last && not (wrap.sequenceKeeps params mark first second last) ⌝ }
+fn sequence_clears(core: Core, params: Params, mark: u8, first: u8, second: u8, last: u8) -> bool
+    ensures { λ r. ⌜ r ≡ hearing.listedSequence mark first second last && not (wrap.sequenceKeeps core params mark first second last) ⌝ }
 {
     if is_plain(mark, first, second) {
         return plain_clears(last);
     }
     if is_private(mark, first, second) {
-        return private_clears(params, last);
+        return private_clears(core, params, last);
     }
     is_soft_reset(mark, first, second, last)
 }
@@ -108,7 +116,7 @@ pub fn clears_wrap(core: Core, action: Action) -> bool
             last,
         } => {
             let params = core.parser.params;
-            sequence_clears(params, mark, first, second, last)
+            sequence_clears(core, params, mark, first, second, last)
         }
         _ => false,
     }

@@ -2,7 +2,7 @@
 use mathlib.Core.Path.{_≡_, refl}
 use mathlib.Core.Bool.{true}
 use Rattle.core.specs.Fresh.{freshCore}
-use Rattle.core.specs.Whole.{wholeCore}
+use Rattle.core.specs.Whole.{wholeCore, wholeDisplays}
 use Rattle.steps.specs.Steps.{ran, sent, readable}
 use Rattle.steps.specs.Whole.{wholeState}
 use Rattle.terminal.specs.Feed.{fed}
@@ -14,7 +14,7 @@ unfolding holds
 all-hold = refl
 
 p8-unchanged : goesTo begun p8 ≡ begun
-unfolding freshCore wholeCore wholeState readable sent ran fed
+unfolding freshCore wholeCore wholeDisplays wholeState readable sent ran fed
 p8-unchanged = refl
 
 pub examples : Examples

@@ -6,6 +6,7 @@ use Prim.Native.Nat.{ℕ}
 use Rattle.terminal.specs.declared.Answer.{Answer}
 use Rattle.terminal.specs.declared.Answer.the-variants.{Done, Broken, WrongSize, NoRoom, OffPage}
 use Rattle.steps.specs.declared.State.{State}
+use Rattle.steps.specs.Steps.{Buffers}
 use Rattle.terminal.specs.declared.Started.{Started}
 use Rattle.terminal.specs.declared.Fed.{Fed}
 use Rattle.terminal.specs.declared.Asked.{Asked}
@@ -16,11 +17,12 @@ use Rattle.terminal.specs.Start.{startAs, started}
 use Rattle.terminal.specs.Feed.{feedAs, fed, feedGives, feedAnswer}
 use Rattle.terminal.specs.Ask.{asked, askGives, askAnswer}
 use Rattle.terminal.specs.Read.{cellRead}
+use Rattle.terminal.specs.Row.{rowRead}
 use Rattle.terminal.specs.CursorRead.{cursorRead}
 use Rattle.record.specs.declared.Terminal.{Terminal}
 use Rattle.record.specs.Numbers.{flagNumber}
 use Rattle.record.specs.Record.{stateOf}
-use Rattle.pankholim.specs.Leaves.{recordLeft, StartLeaves, FeedLeaves, AskLeaves, ReadLeaves, CursorLeaves}
+use Rattle.pankholim.specs.Leaves.{recordLeft, StartLeaves, FeedLeaves, AskLeaves, ReadLeaves, RowLeaves, CursorLeaves}
 use Rattle.record.proofs.RecordLaws.{state-left, state-returned}
 
 -- ---- a refused call returns the state as it came
@@ -36,39 +38,48 @@ ask-kept : (s : State) → refusal (asked s .result .answer) ≡ true → asked 
 unfolding asked
 ask-kept s h = asked-kept (askAnswer s) s h
 
-fed-kept : (a : Answer) (s : State) (p i o : List ℕ) → refusal (feedGives a s p i o .result .answer) ≡ true → feedGives a s p i o .result .state ≡ s
+fed-kept : (a : Answer) (s : State) (p : Buffers) (i o : List ℕ)
+    → refusal (feedGives a s p i o .result .answer) ≡ true → feedGives a s p i o .result .state ≡ s
 fed-kept Done s p i o h = absurd (false≢true h)
 fed-kept Broken s p i o h = refl
 fed-kept WrongSize s p i o h = refl
 fed-kept NoRoom s p i o h = absurd (false≢true h)
 fed-kept OffPage s p i o h = refl
 
-feed-kept : (s : State) (p i o : List ℕ) → refusal (fed s p i o .result .answer) ≡ true → fed s p i o .result .state ≡ s
+feed-kept : (s : State) (p : Buffers) (i o : List ℕ) → refusal (fed s p i o .result .answer) ≡ true → fed s p i o .result .state ≡ s
 unfolding fed
 feed-kept s p i o h = fed-kept (feedAnswer s p i o) s p i o h
 
 -- ---- the calls
 
-pub start-leaves : (t : Terminal) (n : ℕ) (p : List ℕ) (d : Started) (page : List ℕ) (r : ℕ) (u : Terminal)
-    → startAs (d .answer) (d .state) page ≡ started n p → r ≡ number (d .answer) → u ≡ recordLeft t (d .answer) (d .state)
-    → StartLeaves t (started n p) r u page
-start-leaves t n p d page r u done er eu =
-    rw (er, eu, ← done) (record { answer-is = refl; state-is = state-left t (refusal (d .answer)) (d .state); terminal-is = refl; page-is = refl })
+pub start-leaves : (t : Terminal) (n : ℕ) (p : Buffers) (d : Started) (q : Buffers) (r : ℕ) (u : Terminal)
+    → startAs (d .answer) (d .state) q ≡ started n p → r ≡ number (d .answer) → u ≡ recordLeft t (d .answer) (d .state)
+    → StartLeaves t (started n p) r u q
+start-leaves t n p d q r u done er eu =
+    rw (er, eu, ← done) (record { answer-is = refl; state-is = state-left t (refusal (d .answer)) (d .state); terminal-is = refl; buffers-is = refl })
 
-pub ask-leaves : (t : Terminal) (s : State) (d : Asked) (r : ℕ) (u : Terminal)
-    → s ≡ stateOf t → record { number = number (d .answer); result = d } ≡ asked s → r ≡ number (d .answer) → u ≡ recordLeft t (d .answer) (d .state)
-    → AskLeaves t (asked (stateOf t)) r u (d .rows) (d .count)
-ask-leaves t s d r u es ed er eu =
+pub ask-leaves : (t : Terminal) (s : State) (d : Asked) (line r : ℕ) (u : Terminal)
+    → s ≡ stateOf t → record { number = number (d .answer); result = d } ≡ asked s → line ≡ flagNumber (d .flag)
+    → r ≡ number (d .answer) → u ≡ recordLeft t (d .answer) (d .state)
+    → AskLeaves t (asked (stateOf t)) r u (d .rows) (d .count) line
+ask-leaves t s d line r u es ed el er eu =
     let done = rw es at ed in
     let kept = rw (← done) at (ask-kept (stateOf t)) in
-    rw (er, eu, ← done)
-    (record { answer-is = refl; state-is = state-returned t (refusal (d .answer)) (d .state) kept; terminal-is = refl; changed-is = refl; count-is = refl })
+    rw (el, er, eu, ← done)
+    (record {
+      answer-is = refl;
+      state-is = state-returned t (refusal (d .answer)) (d .state) kept;
+      terminal-is = refl;
+      changed-is = refl;
+      count-is = refl;
+      line-is = refl;
+    })
 
-pub feed-leaves : (t : Terminal) (s : State) (p i o : List ℕ) (d : Fed) (page reply : List ℕ) (r : ℕ) (u : Terminal)
-    → s ≡ stateOf t → feedAs (d .answer) (d .read) (d .replied) (d .state) page reply ≡ fed s p i o
+pub feed-leaves : (t : Terminal) (s : State) (p : Buffers) (i o : List ℕ) (d : Fed) (q : Buffers) (reply : List ℕ) (r : ℕ) (u : Terminal)
+    → s ≡ stateOf t → feedAs (d .answer) (d .read) (d .replied) (d .state) q reply ≡ fed s p i o
     → r ≡ number (d .answer) → u ≡ recordLeft t (d .answer) (d .state)
-    → FeedLeaves t (fed (stateOf t) p i o) r u page reply (d .read) (d .replied)
-feed-leaves t s p i o d page reply r u es ed er eu =
+    → FeedLeaves t (fed (stateOf t) p i o) r u q reply (d .read) (d .replied)
+feed-leaves t s p i o d q reply r u es ed er eu =
     let done = rw es at ed in
     let kept = rw (← done) at (feed-kept (stateOf t) p i o) in
     rw (er, eu, ← done)
@@ -76,7 +87,7 @@ feed-leaves t s p i o d page reply r u es ed er eu =
       answer-is = refl;
       state-is = state-returned t (refusal (d .answer)) (d .state) kept;
       terminal-is = refl;
-      page-is = refl;
+      buffers-is = refl;
       reply-is = refl;
       read-is = refl;
       replied-is = refl;
@@ -88,6 +99,13 @@ pub read-leaves : (t : Terminal) (s : State) (p : List ℕ) (row column : ℕ) (
 read-leaves t s p row column d r es ed er =
     let done = rw es at ed in
     rw (er, ← done) (record { answer-is = refl; word-is = refl })
+
+pub row-leaves : (t : Terminal) (s : State) (p : Buffers) (row r : ℕ) (part : List ℕ)
+    → s ≡ stateOf t → record { number = r; cells = part } ≡ rowRead s p row
+    → RowLeaves (rowRead (stateOf t) p row) r part
+row-leaves t s p row r part es ed =
+    let done = rw es at ed in
+    rw (← done) (record { answer-is = refl; part-is = refl })
 
 pub cursor-leaves : (t : Terminal) (s : State) (d : CursorRead) (r wrap shown : ℕ)
     → s ≡ stateOf t → record { number = number (d .answer); result = d } ≡ cursorRead s

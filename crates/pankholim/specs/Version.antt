@@ -6,4 +6,4 @@ abbrev pub packed : ℕ → ℕ → ℕ → ℕ
 packed major minor patch = 65536 * major + 256 * minor + patch
 
 abbrev pub version : ℕ
-version = packed 0 4 0
+version = packed 0 5 0

@@ -5,10 +5,11 @@ use record::numbers::flag_number;
 use record::to_state::state_of;
 use steps::State;
 use terminal::Answer;
+use terminal::answers::is_refusal;
 use terminal::answers::number;
 use terminal::calls;
 ghost use mathlib.Core.Path.{_≡_};
-ghost use Rattle.terminal.specs.Answers as answers;
+ghost use Rattle.steps.specs.Steps.{buffers};
 ghost use Rattle.terminal.specs.Start.{started};
 ghost use Rattle.terminal.specs.Feed.{fed};
 ghost use Rattle.terminal.specs.Ask.{asked};
@@ -23,32 +24,21 @@ pub struct Outcome {
     pub terminal: Terminal,
 }
 
-fn refused(answer: Answer) -> bool
-    ensures { λ r. ⌜ r ≡ answers.refusal answer ⌝ }
-{
-    match answer {
-        Answer::Done => false,
-        Answer::Broken => true,
-        Answer::WrongSize => true,
-        Answer::NoRoom => false,
-        Answer::OffPage => true,
-    }
-}
-
 // Refused, the record as it came; else that of the state returned.
 fn record_left(terminal: Terminal, answer: Answer, state: State) -> Terminal
     ensures { λ r. ⌜ r ≡ leaving.recordLeft terminal answer state ⌝ }
 {
-    if refused(answer) {
+    if is_refusal(answer) {
         return terminal;
     }
     record_of(state)
 }
 
-pub fn start(terminal: Terminal, rows: usize, page: &mut [u16]) -> Outcome
-    ensures { λ r. ⌜ leaving.StartLeaves terminal (started rows (now (page .entry))) (r .answer) (r .terminal) (now (page .exit)) ⌝ }
+pub fn start(terminal: Terminal, rows: usize, page: &mut [u16], line: &mut [u16]) -> Outcome
+    ensures { λ r. ⌜ leaving.StartLeaves terminal (started rows (buffers (now (page .entry)) (now (line .entry))))
+        (r .answer) (r .terminal) (buffers (now (page .exit)) (now (line .exit))) ⌝ }
 {
-    let done = calls::start(rows as usize, page);
+    let done = calls::start(rows as usize, page, line);
     let answer = done.answer;
     Outcome {
         answer: number(answer),
@@ -59,14 +49,17 @@ pub fn start(terminal: Terminal, rows: usize, page: &mut [u16]) -> Outcome
 pub fn feed(
     terminal: Terminal,
     page: &mut [u16],
+    line: &mut [u16],
     input: &[u8],
     reply: &mut [u8],
     read: &mut usize,
     replied: &mut usize,
 ) -> Outcome
-    ensures { λ r. ⌜ leaving.FeedLeaves terminal (fed (stateOf terminal) (now (page .entry)) (now (input .entry)) (now (reply .entry))) (r .answer) (r .terminal) (now (page .exit)) (now (reply .exit)) (now (read .exit)) (now (replied .exit)) ⌝ }
+    ensures { λ r. ⌜ leaving.FeedLeaves terminal
+        (fed (stateOf terminal) (buffers (now (page .entry)) (now (line .entry))) (now (input .entry)) (now (reply .entry)))
+        (r .answer) (r .terminal) (buffers (now (page .exit)) (now (line .exit))) (now (reply .exit)) (now (read .exit)) (now (replied .exit)) ⌝ }
 {
-    let done = calls::feed(state_of(terminal), page, input, reply);
+    let done = calls::feed(state_of(terminal), page, line, input, reply);
     *read = done.read;
     *replied = done.replied;
     let answer = done.answer;
@@ -76,12 +69,14 @@ pub fn feed(
     }
 }
 
-pub fn ask(terminal: Terminal, changed: &mut u64, count: &mut u32) -> Outcome
-    ensures { λ r. ⌜ leaving.AskLeaves terminal (asked (stateOf terminal)) (r .answer) (r .terminal) (now (changed .exit)) (now (count .exit)) ⌝ }
+pub fn ask(terminal: Terminal, changed: &mut u64, count: &mut u32, line: &mut u8) -> Outcome
+    ensures { λ r. ⌜ leaving.AskLeaves terminal (asked (stateOf terminal))
+        (r .answer) (r .terminal) (now (changed .exit)) (now (count .exit)) (now (line .exit)) ⌝ }
 {
     let done = calls::ask(state_of(terminal));
     *changed = done.rows;
     *count = done.count;
+    *line = flag_number(done.flag);
     let answer = done.answer;
     Outcome {
         answer: number(answer),

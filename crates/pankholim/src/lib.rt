@@ -2,24 +2,28 @@
 mod by_value;
 
 use record::Terminal;
+use record::to_state::state_of;
+use terminal::rows;
 use text::Written;
 use text::text_len;
 use text::write_text;
 ghost use mathlib.Core.Path.{_≡_};
 ghost use lib.ListN.{length};
+ghost use Rattle.steps.specs.Steps.{buffers};
 ghost use Rattle.terminal.specs.Start.{started};
 ghost use Rattle.terminal.specs.Feed.{fed};
 ghost use Rattle.terminal.specs.Ask.{asked};
 ghost use Rattle.terminal.specs.Read.{cellRead};
+ghost use Rattle.terminal.specs.Row.{rowRead};
 ghost use Rattle.terminal.specs.CursorRead.{cursorRead};
 ghost use Rattle.text.specs.Text.{pageText};
 ghost use Rattle.record.specs.Record.{stateOf};
-ghost use Rattle.pankholim.specs.Leaves.{StartLeaves, FeedLeaves, AskLeaves, ReadLeaves, CursorLeaves, WriteLeaves};
+ghost use Rattle.pankholim.specs.Leaves.{StartLeaves, FeedLeaves, AskLeaves, ReadLeaves, RowLeaves, CursorLeaves, WriteLeaves};
 ghost use Rattle.pankholim.specs.Version.{version};
 
 const MAJOR: u32 = 0;
 
-const MINOR: u32 = 4;
+const MINOR: u32 = 5;
 
 const PATCH: u32 = 0;
 
@@ -31,12 +35,19 @@ pub extern "C" fn pankholim_version() -> u32
     MAJOR * 65536 + MINOR * 256 + PATCH
 }
 
-// Starts a terminal of 24, 36 or 48 rows: every cell blank, the record fresh, whatever it was. Refused, it leaves both.
+// Starts a terminal of 24, 36 or 48 rows: every cell of page and line blank, the record fresh, whatever it was. Refused, it
+// leaves all three.
 #[no_mangle]
-pub extern "C" fn pankholim_start(terminal: &mut Terminal, rows: usize, page: &mut [u16]) -> u8
-    ensures { λ r. ⌜ StartLeaves (now (terminal .entry)) (started rows (now (page .entry))) r (now (terminal .exit)) (now (page .exit)) ⌝ }
+pub extern "C" fn pankholim_start(
+    terminal: &mut Terminal,
+    rows: usize,
+    page: &mut [u16],
+    line: &mut [u16],
+) -> u8
+    ensures { λ r. ⌜ StartLeaves (now (terminal .entry)) (started rows (buffers (now (page .entry)) (now (line .entry))))
+        r (now (terminal .exit)) (buffers (now (page .exit)) (now (line .exit))) ⌝ }
 {
-    let outcome = by_value::start(*terminal, rows, page);
+    let outcome = by_value::start(*terminal, rows, page, line);
     *terminal = outcome.terminal;
     outcome.answer
 }
@@ -46,29 +57,38 @@ pub extern "C" fn pankholim_start(terminal: &mut Terminal, rows: usize, page: &m
 pub extern "C" fn pankholim_feed(
     terminal: &mut Terminal,
     page: &mut [u16],
+    line: &mut [u16],
     input: &[u8],
     reply: &mut [u8],
     read: &mut usize,
     replied: &mut usize,
 ) -> u8
-    ensures { λ r. ⌜ FeedLeaves (now (terminal .entry)) (fed (stateOf (now (terminal .entry))) (now (page .entry)) (now (input .entry)) (now (reply .entry))) r (now (terminal .exit)) (now (page .exit)) (now (reply .exit)) (now (read .exit)) (now (replied .exit)) ⌝ }
+    ensures { λ r. ⌜ FeedLeaves (now (terminal .entry))
+        (fed (stateOf (now (terminal .entry))) (buffers (now (page .entry)) (now (line .entry))) (now (input .entry)) (now (reply .entry)))
+        r (now (terminal .exit)) (buffers (now (page .exit)) (now (line .exit))) (now (reply .exit)) (now (read .exit)) (now (replied .exit)) ⌝ }
 {
-    let outcome = by_value::feed(*terminal, page, input, reply, read, replied);
+    let outcome = by_value::feed(*terminal, page, line, input, reply, read, replied);
     *terminal = outcome.terminal;
     outcome.answer
 }
 
-// Asks for the changed rows, and empties the set.
+// Asks for the changed rows, and whether the line changed; empties the set and clears the line's flag.
 #[no_mangle]
-pub extern "C" fn pankholim_ask(terminal: &mut Terminal, changed: &mut u64, count: &mut u32) -> u8
-    ensures { λ r. ⌜ AskLeaves (now (terminal .entry)) (asked (stateOf (now (terminal .entry)))) r (now (terminal .exit)) (now (changed .exit)) (now (count .exit)) ⌝ }
+pub extern "C" fn pankholim_ask(
+    terminal: &mut Terminal,
+    changed: &mut u64,
+    count: &mut u32,
+    line: &mut u8,
+) -> u8
+    ensures { λ r. ⌜ AskLeaves (now (terminal .entry)) (asked (stateOf (now (terminal .entry))))
+        r (now (terminal .exit)) (now (changed .exit)) (now (count .exit)) (now (line .exit)) ⌝ }
 {
-    let outcome = by_value::ask(*terminal, changed, count);
+    let outcome = by_value::ask(*terminal, changed, count, line);
     *terminal = outcome.terminal;
     outcome.answer
 }
 
-// Reads a cell by its row and column, counted from 1.
+// Reads a cell of the page by its row and column, counted from 1.
 #[no_mangle]
 pub extern "C" fn pankholim_read(
     terminal: &Terminal,
@@ -82,7 +102,24 @@ pub extern "C" fn pankholim_read(
     by_value::read(*terminal, page, row, column, word)
 }
 
-// Reads the cursor: its row and column on the page, counted from 1, whatever origin mode says, whether a
+// Reads a row of the active display, counted from 1: `part` is its 80 cells, where they lie in page or line, or none where
+// the call is refused. The record goes by value: so no walk by hand is needed.
+#[no_mangle]
+pub extern "C" fn pankholim_row<'a>(
+    terminal: Terminal,
+    page: &'a [u16],
+    line: &'a [u16],
+    row: usize,
+    part: &mut &'a [u16],
+) -> u8
+    ensures { λ r. ⌜ RowLeaves (rowRead (stateOf terminal) (buffers (now (page .entry)) (now (line .entry))) row) r (now (now (part .exit))) ⌝ }
+{
+    let mut answer = 0;
+    *part = rows::row(state_of(terminal), page, line, row, &mut answer);
+    answer
+}
+
+// Reads the page's cursor: its row and column, counted from 1, whatever origin mode says, whether a
 // wrap is due, and whether it is shown.
 #[no_mangle]
 pub extern "C" fn pankholim_cursor(
@@ -92,7 +129,8 @@ pub extern "C" fn pankholim_cursor(
     wrap: &mut u8,
     shown: &mut u8,
 ) -> u8
-    ensures { λ r. ⌜ CursorLeaves (cursorRead (stateOf (now (terminal .entry)))) r (now (row .exit)) (now (column .exit)) (now (wrap .exit)) (now (shown .exit)) ⌝ }
+    ensures { λ r. ⌜ CursorLeaves (cursorRead (stateOf (now (terminal .entry))))
+        r (now (row .exit)) (now (column .exit)) (now (wrap .exit)) (now (shown .exit)) ⌝ }
 {
     by_value::cursor(*terminal, row, column, wrap, shown)
 }

@@ -1,5 +1,5 @@
 -- The commands B and Q: a state with one field changed, or with another parser.
-use mathlib.Core.Bool.{Bool, cond, not}
+use mathlib.Core.Bool.{Bool, false, cond, not}
 use mathlib.Core.List.{List, [], _∷_}
 use Prim.Native.Nat.{ℕ, _+_, _*_, _%_, _^_}
 use lib.Dec.{eqb}
@@ -8,9 +8,12 @@ use Rattle.device.specs.declared.cursor.Cursor.{Cursor}
 use Rattle.parser.specs.declared.parser.Parser.{Parser}
 use Rattle.parser.specs.Phases.{phaseOf}
 use Rattle.core.specs.declared.Core.{Core}
+use Rattle.core.specs.declared.LineSaved.{LineSaved}
+use Rattle.core.specs.declared.StatusLine.{StatusLine}
 use Rattle.core.specs.Modes.{withOrigin, withAutowrap, withShown}
 use Rattle.core.specs.Effects.{withRows, savedAt, withCursor, withMargins, withModes, withSaved, withParser}
 use Rattle.steps.specs.declared.State.{State}
+use Rattle.steps.specs.declared.Tracked.{Tracked}
 use Rattle.steps.specs.Steps.{noted}
 
 -- ---- B
@@ -48,12 +51,42 @@ flagPoked c field on =
 unfoldable pub pokedCore : Core → ℕ → ℕ → Core
 pokedCore c field n = flagPoked (numberPoked c field n) field (not (eqb n 0))
 
--- field 12 adds row ((n + 63) mod 64) + 1 to the changed ones
-unfoldable pub poked : State → ℕ → ℕ → State
-poked s field n =
-    cond (eqb field 12)
-    (record { core = s .core; tracked = noted (s .tracked) (2 ^ ((n + 63) % 64)) })
-    (record { core = pokedCore (s .core) field (n % 256); tracked = s .tracked })
+-- the line with other fields of those that are poked
+abbrev pub lineFrom : Bool → Bool → ℕ → Bool → LineSaved → StatusLine
+lineFrom present active column wrap saved = record { present = present; active = active; column = column; wrap = wrap; saved = saved }
+
+abbrev pub lineSavedAt : LineSaved → ℕ → Bool → LineSaved
+lineSavedAt s column wrap =
+    record { column = column; wrap = wrap; rendition = s .rendition; sets = s .sets; protected = s .protected; shift = s .shift }
+
+unfoldable pub lineNumberPoked : StatusLine → ℕ → ℕ → StatusLine
+lineNumberPoked l field n =
+    cond (eqb field 15) (lineFrom (l .present) (l .active) n (l .wrap) (l .saved))
+    (cond (eqb field 17) (lineFrom (l .present) (l .active) (l .column) (l .wrap) (lineSavedAt (l .saved) n (l .saved .wrap))) l)
+
+unfoldable pub lineFlagPoked : StatusLine → ℕ → Bool → StatusLine
+lineFlagPoked l field on =
+    cond (eqb field 13) (lineFrom on (l .active) (l .column) (l .wrap) (l .saved))
+    (cond (eqb field 14) (lineFrom (l .present) on (l .column) (l .wrap) (l .saved))
+    (cond (eqb field 16) (lineFrom (l .present) (l .active) (l .column) on (l .saved))
+    (cond (eqb field 18) (lineFrom (l .present) (l .active) (l .column) (l .wrap) (lineSavedAt (l .saved) (l .saved .column) on)) l)))
+
+-- fields 13 to 18, of the line
+unfoldable pub pokedLine : StatusLine → ℕ → ℕ → StatusLine
+pokedLine l field n = lineFlagPoked (lineNumberPoked l field n) field (not (eqb n 0))
+
+-- field 12 adds row ((n + 63) mod 64) + 1 to the changed ones, field 19 is the line's changed flag
+unfoldable pub pokedTracked : Tracked → ℕ → ℕ → Tracked
+pokedTracked t field n =
+    cond (eqb field 12) (noted t (2 ^ ((n + 63) % 64)) false)
+    (cond (eqb field 19) (record { changed = t .changed; flag = not (eqb (n % 256) 0) }) t)
+
+-- each field is of one of the three
+abbrev pub poked : State → ℕ → ℕ → State
+poked s field n = record {
+  displays = record { core = pokedCore (s .displays .core) field (n % 256); line = pokedLine (s .displays .line) field (n % 256) };
+  tracked = pokedTracked (s .tracked) field n;
+}
 
 -- ---- Q
 
@@ -74,4 +107,5 @@ parserOf bs = record {
 }
 
 abbrev pub parserPoked : State → List ℕ → State
-parserPoked s bs = record { core = withParser (s .core) (parserOf bs); tracked = s .tracked }
+parserPoked s bs =
+    record { displays = record { core = withParser (s .displays .core) (parserOf bs); line = s .displays .line }; tracked = s .tracked }

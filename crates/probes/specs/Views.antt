@@ -9,6 +9,9 @@ use Rattle.device.specs.declared.cursor.Cursor.{Cursor}
 use Rattle.core.specs.declared.Core.{Core}
 use Rattle.core.specs.declared.Modes.{Modes}
 use Rattle.core.specs.declared.Saved.{Saved}
+use Rattle.core.specs.declared.LineSaved.{LineSaved}
+use Rattle.core.specs.declared.StatusLine.{StatusLine}
+use Rattle.core.specs.declared.Displays.{Displays}
 
 abbrev pub cursorBytes : Cursor → List ℕ
 cursorBytes u = u .row ∷ u .column ∷ bit (u .wrap) ∷ []
@@ -37,5 +40,18 @@ abbrev pub writingBytes : Core → List ℕ
 writingBytes c = renditionBytes (c .rendition) ++ (bit (c .protected) ∷ []) ++ setBytes (c .sets) ++ (shiftNumber (c .shift) ∷ [])
 
 -- these, what is saved, and the tabs
-abbrev pub viewBytes : Core → List ℕ
-viewBytes c = placeBytes c ++ writingBytes c ++ savedBytes (c .saved) ++ c .tabs .flags
+abbrev pub coreBytes : Core → List ℕ
+coreBytes c = placeBytes c ++ writingBytes c ++ savedBytes (c .saved) ++ c .tabs .flags
+
+-- of the line: whether there is one and whether it is active, its cursor, and the cursor that is saved of it
+abbrev pub linePlaceBytes : StatusLine → LineSaved → List ℕ
+linePlaceBytes l s = bit (l .present) ∷ bit (l .active) ∷ l .column ∷ bit (l .wrap) ∷ s .column ∷ bit (s .wrap) ∷ []
+
+-- these, and what else is saved of it
+abbrev pub lineBytes : StatusLine → List ℕ
+lineBytes l =
+    linePlaceBytes l (l .saved) ++ renditionBytes (l .saved .rendition) ++ setBytes (l .saved .sets)
+    ++ (bit (l .saved .protected) ∷ []) ++ (shiftNumber (l .saved .shift) ∷ [])
+
+abbrev pub viewBytes : Displays → List ℕ
+viewBytes k = coreBytes (k .core) ++ lineBytes (k .line)

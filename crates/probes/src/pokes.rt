@@ -1,10 +1,13 @@
 // A state with one field changed, or with another parser, so that broken ones are tried too.
 use cells::marks::row_bit;
 use core::Core;
+use core::Displays;
+use core::StatusLine;
 use parser::params::Params;
 use parser::parser::Parser;
 use parser::phases::phase_of;
 use steps::State;
+use steps::Tracked;
 ghost use mathlib.Core.Path.{_≡_};
 ghost use Prim.Native.Nat.{_+_, _*_};
 ghost use lib.ListN.{drop};
@@ -85,22 +88,84 @@ fn poke_core(core: Core, field: u16, n: u8) -> Core
     poke_flag(poke_number(core, field, n), field, n != 0)
 }
 
-// Field 12 adds a row to the changed ones.
+fn poke_line_number(line: StatusLine, field: u16, n: u8) -> StatusLine
+    ensures { λ r. ⌜ r ≡ poking.lineNumberPoked line field n ⌝ }
+{
+    let mut l = line;
+    match field {
+        15 => {
+            l.column = n;
+            l
+        }
+        17 => {
+            l.saved.column = n;
+            l
+        }
+        _ => l,
+    }
+}
+
+fn poke_line_flag(line: StatusLine, field: u16, on: bool) -> StatusLine
+    ensures { λ r. ⌜ r ≡ poking.lineFlagPoked line field on ⌝ }
+{
+    let mut l = line;
+    match field {
+        13 => {
+            l.present = on;
+            l
+        }
+        14 => {
+            l.active = on;
+            l
+        }
+        16 => {
+            l.wrap = on;
+            l
+        }
+        18 => {
+            l.saved.wrap = on;
+            l
+        }
+        _ => l,
+    }
+}
+
+fn poke_line(line: StatusLine, field: u16, n: u8) -> StatusLine
+    ensures { λ r. ⌜ r ≡ poking.pokedLine line field n ⌝ }
+{
+    poke_line_flag(poke_line_number(line, field, n), field, n != 0)
+}
+
+// Field 12 adds a row to the changed ones, and 19 is the line's changed flag.
+fn poke_tracked(tracked: Tracked, field: u16, n: u16) -> Tracked
+    ensures { λ r. ⌜ r ≡ poking.pokedTracked tracked field n ⌝ }
+{
+    match field {
+        12 => {
+            let row = (n as u32 + 63) % 64;
+            tracked.note(row_bit(row as u8, true), false)
+        }
+        19 => Tracked {
+            changed: tracked.changed,
+            flag: n % 256 != 0,
+        },
+        _ => tracked,
+    }
+}
+
 pub fn poke(state: State, field: u16, n: u16) -> State
     ensures { λ r. ⌜ r ≡ poking.poked state field n ⌝ }
 {
-    let core = state.core;
+    let core = state.displays.core;
+    let line = state.displays.line;
     let tracked = state.tracked;
-    if field == 12 {
-        let row = (n as u32 + 63) % 64;
-        return State {
-            core,
-            tracked: tracked.note(row_bit(row as u8, true)),
-        };
-    }
+    let low = (n % 256) as u8;
     State {
-        core: poke_core(core, field, (n % 256) as u8),
-        tracked,
+        displays: Displays {
+            core: poke_core(core, field, low),
+            line: poke_line(line, field, low),
+        },
+        tracked: poke_tracked(tracked, field, n),
     }
 }
 
@@ -145,8 +210,12 @@ fn parser_of(bytes: [u8; 37]) -> Parser
 pub fn poke_parser(state: State, bytes: [u8; 37]) -> State
     ensures { λ r. ⌜ r ≡ poking.parserPoked state bytes ⌝ }
 {
-    let mut core = state.core;
+    let mut core = state.displays.core;
     core.parser = parser_of(bytes);
+    let line = state.displays.line;
     let tracked = state.tracked;
-    State { core, tracked }
+    State {
+        displays: Displays { core, line },
+        tracked,
+    }
 }

@@ -4,8 +4,11 @@ use crate::output::put_bytes;
 use cells::Rendition;
 use cells::words::set_number;
 use core::Core;
+use core::Displays;
+use core::LineSaved;
 use core::Modes;
 use core::Saved;
+use core::StatusLine;
 use device::charsets::Sets;
 use device::charsets::register_number;
 use device::charsets::shift_number;
@@ -118,11 +121,45 @@ fn put_writing(out: &mut [u8], at: usize, core: Core) -> usize
     put(out, shifted, shift_number(shift))
 }
 
-pub fn put_core(out: &mut [u8], at: usize, core: Core) -> usize
-    ensures { λ r. ⌜ PutAt (now (out .entry)) at (views.viewBytes core) (now (out .exit)) r ⌝ }
+fn put_core(out: &mut [u8], at: usize, core: Core) -> usize
+    ensures { λ r. ⌜ PutAt (now (out .entry)) at (views.coreBytes core) (now (out .exit)) r ⌝ }
 {
     let writing = put_place(out, at, core);
     let saved = put_writing(out, writing, core);
     let tabs = put_saved(out, saved, core.saved);
     put_tabs(out, tabs, core.tabs)
+}
+
+// Whether there is a line and whether it is active, and its cursors.
+fn put_line_place(out: &mut [u8], at: usize, line: StatusLine, saved: LineSaved) -> usize
+    ensures { λ r. ⌜ PutAt (now (out .entry)) at (views.linePlaceBytes line saved) (now (out .exit)) r ⌝ }
+{
+    let place = [
+        line.present as u8,
+        line.active as u8,
+        line.column,
+        line.wrap as u8,
+        saved.column,
+        saved.wrap as u8,
+    ];
+    put_bytes(out, at, &place)
+}
+
+fn put_line(out: &mut [u8], at: usize, line: StatusLine) -> usize
+    ensures { λ r. ⌜ PutAt (now (out .entry)) at (views.lineBytes line) (now (out .exit)) r ⌝ }
+{
+    let saved = line.saved;
+    let shift = saved.shift;
+    let rendition = put_line_place(out, at, line, saved);
+    let sets = put_rendition(out, rendition, saved.rendition);
+    let protection = put_sets(out, sets, saved.sets);
+    let shifted = put_flag(out, protection, saved.protected);
+    put(out, shifted, shift_number(shift))
+}
+
+pub fn put_displays(out: &mut [u8], at: usize, displays: Displays) -> usize
+    ensures { λ r. ⌜ PutAt (now (out .entry)) at (views.viewBytes displays) (now (out .exit)) r ⌝ }
+{
+    let line = put_core(out, at, displays.core);
+    put_line(out, line, displays.line)
 }

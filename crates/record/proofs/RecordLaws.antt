@@ -18,7 +18,7 @@ use Rattle.device.specs.Charsets.{registerNumber, registerOf, shiftNumber, shif
 use Rattle.parser.specs.Phases.{phaseNumber}
 use Rattle.parser.proofs.PhaseLaws.{phase-back}
 use Rattle.record.specs.Numbers.{flagNumber, isOn}
-use Rattle.record.specs.Record.{recordOf, coreOf, stateOf, named}
+use Rattle.record.specs.Record.{recordOf, coreOf, lineOf, stateOf, named}
 
 -- ---- numbers
 
@@ -84,17 +84,24 @@ state-named : (s : State) → named (recordOf s) ≡ true
 unfolding named recordOf
 state-named s = simp (flag-named, set-named, register-named, shift-named, phase-named)
 
-core-back : (s : State) → coreOf (recordOf s) (s .core .rows) ≡ s .core
+core-back : (s : State) → coreOf (recordOf s) (s .displays .core .rows) ≡ s .displays .core
 unfolding coreOf recordOf
 core-back s = simp (flag-back, set-back, register-back, shift-back, phase-back)
 
-rows-back : (s : State) → cond (named (recordOf s)) (recordOf s .rows) 0 ≡ s .core .rows
+rows-back : (s : State) → cond (named (recordOf s)) (recordOf s .rows) 0 ≡ s .displays .core .rows
 unfolding recordOf
-rows-back s = ap (λ (t : Bool). cond t (s .core .rows) 0) (state-named s)
+rows-back s = ap (λ (t : Bool). cond t (s .displays .core .rows) 0) (state-named s)
+
+line-back : (s : State) → lineOf (recordOf s .status) ≡ s .displays .line
+unfolding recordOf
+line-back s = simp (flag-back, set-back, register-back, shift-back)
 
 pub state-back : (s : State) → stateOf (recordOf s) ≡ s
 unfolding stateOf recordOf
-state-back s = λ i. record { core = (ap (coreOf (recordOf s)) (rows-back s) ∙ core-back s) i; tracked = s .tracked }
+state-back s = λ i. record {
+  displays = record { core = (ap (coreOf (recordOf s)) (rows-back s) ∙ core-back s) i; line = line-back s i };
+  tracked = record { changed = s .tracked .changed; flag = flag-back (s .tracked .flag) i };
+}
 
 -- ---- what a call leaves, refused or not
 

@@ -3,12 +3,15 @@ use mathlib.Core.Bool.{Bool, cond, _&&_}
 use mathlib.Core.List.{List}
 use Prim.Native.Nat.{ℕ}
 use lib.Dec.{ltb}
+use lib.ListN.{replicate}
 use Rattle.cells.specs.Cells.{setNumber, setOf}
 use Rattle.cells.specs.declared.Rendition.{Rendition}
 use Rattle.device.specs.declared.charsets.Sets.{Sets}
 use Rattle.core.specs.declared.Core.{Core}
 use Rattle.core.specs.declared.Modes.{Modes}
 use Rattle.core.specs.declared.Saved.{Saved}
+use Rattle.core.specs.declared.LineSaved.{LineSaved}
+use Rattle.core.specs.declared.StatusLine.{StatusLine}
 use Rattle.device.specs.declared.cursor.Cursor.{Cursor}
 use Rattle.parser.specs.declared.parser.Parser.{Parser}
 use Rattle.steps.specs.declared.State.{State}
@@ -18,6 +21,8 @@ use Rattle.record.specs.declared.RenditionRecord.{RenditionRecord}
 use Rattle.record.specs.declared.SetsRecord.{SetsRecord}
 use Rattle.record.specs.declared.SavedRecord.{SavedRecord}
 use Rattle.record.specs.declared.ParserRecord.{ParserRecord}
+use Rattle.record.specs.declared.LineSavedRecord.{LineSavedRecord}
+use Rattle.record.specs.declared.StatusRecord.{StatusRecord}
 use Rattle.record.specs.declared.Terminal.{Terminal}
 use Rattle.device.specs.Charsets.{registerNumber, registerOf, shiftNumber, shiftOf}
 use Rattle.parser.specs.Phases.{phaseNumber, phaseOf}
@@ -76,22 +81,45 @@ parserRecord p = record {
   separators = p .params .separators;
 }
 
+abbrev pub lineSavedRecord : LineSaved → LineSavedRecord
+lineSavedRecord s = record {
+  column = s .column;
+  wrap = flagNumber (s .wrap);
+  rendition = renditionRecord (s .rendition);
+  sets = setsRecord (s .sets);
+  protected = flagNumber (s .protected);
+  shift = shiftNumber (s .shift);
+}
+
+abbrev pub statusRecord : StatusLine → StatusRecord
+statusRecord l = record {
+  present = flagNumber (l .present);
+  active = flagNumber (l .active);
+  column = l .column;
+  wrap = flagNumber (l .wrap);
+  saved = lineSavedRecord (l .saved);
+}
+
+-- the unused bytes are 0, so that equal states have equal records
 unfoldable pub recordOf : State → Terminal
 recordOf s = record {
   changed = s .tracked .changed;
-  values = s .core .parser .params .values;
-  tabs = s .core .tabs .flags;
-  rows = s .core .rows;
-  top = s .core .margins .top;
-  bottom = s .core .margins .bottom;
-  protected = flagNumber (s .core .protected);
-  shift = shiftNumber (s .core .shift);
-  cursor = cursorRecord (s .core .cursor);
-  modes = modesRecord (s .core .modes);
-  rendition = renditionRecord (s .core .rendition);
-  sets = setsRecord (s .core .sets);
-  saved = savedRecord (s .core .saved);
-  parser = parserRecord (s .core .parser);
+  values = s .displays .core .parser .params .values;
+  tabs = s .displays .core .tabs .flags;
+  rows = s .displays .core .rows;
+  top = s .displays .core .margins .top;
+  bottom = s .displays .core .margins .bottom;
+  protected = flagNumber (s .displays .core .protected);
+  shift = shiftNumber (s .displays .core .shift);
+  cursor = cursorRecord (s .displays .core .cursor);
+  modes = modesRecord (s .displays .core .modes);
+  rendition = renditionRecord (s .displays .core .rendition);
+  sets = setsRecord (s .displays .core .sets);
+  saved = savedRecord (s .displays .core .saved);
+  parser = parserRecord (s .displays .core .parser);
+  status = statusRecord (s .displays .line);
+  flag = flagNumber (s .tracked .flag);
+  unused = replicate 5 0;
 }
 
 -- ---- the state of a record
@@ -147,6 +175,25 @@ parserOf p vs = record {
   params = record { separators = p .separators; values = vs };
 }
 
+abbrev pub lineSavedOf : LineSavedRecord → LineSaved
+lineSavedOf s = record {
+  column = s .column;
+  wrap = isOn (s .wrap);
+  rendition = renditionOf (s .rendition);
+  sets = setsOf (s .sets);
+  protected = isOn (s .protected);
+  shift = shiftOf (s .shift);
+}
+
+abbrev pub lineOf : StatusRecord → StatusLine
+lineOf s = record {
+  present = isOn (s .present);
+  active = isOn (s .active);
+  column = s .column;
+  wrap = isOn (s .wrap);
+  saved = lineSavedOf (s .saved);
+}
+
 unfoldable pub coreOf : Terminal → ℕ → Core
 coreOf t rows = record {
   rows = rows;
@@ -183,6 +230,12 @@ savedNamed s =
     && ltb (s .protected) 2
     && ltb (s .shift) 3
 
+abbrev pub lineSavedNamed : LineSavedRecord → Bool
+lineSavedNamed s = ltb (s .wrap) 2 && renditionNamed (s .rendition) && setsNamed (s .sets) && ltb (s .protected) 2 && ltb (s .shift) 3
+
+abbrev pub statusNamed : StatusRecord → Bool
+statusNamed s = ltb (s .present) 2 && ltb (s .active) 2 && ltb (s .wrap) 2 && lineSavedNamed (s .saved)
+
 unfoldable pub named : Terminal → Bool
 named t =
     ltb (t .protected) 2
@@ -193,7 +246,12 @@ named t =
     && renditionNamed (t .rendition)
     && setsNamed (t .sets)
     && savedNamed (t .saved)
+    && statusNamed (t .status)
+    && ltb (t .flag) 2
 
 -- without rows where a number names nothing: no call takes such a state
 unfoldable pub stateOf : Terminal → State
-stateOf t = record { core = coreOf t (cond (named t) (t .rows) 0); tracked = record { changed = t .changed } }
+stateOf t = record {
+  displays = record { core = coreOf t (cond (named t) (t .rows) 0); line = lineOf (t .status) };
+  tracked = record { changed = t .changed; flag = isOn (t .flag) };
+}

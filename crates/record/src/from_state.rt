@@ -1,16 +1,20 @@
 // The record of a state.
 use crate::CursorRecord;
+use crate::LineSavedRecord;
 use crate::ModesRecord;
 use crate::ParserRecord;
 use crate::RenditionRecord;
 use crate::SavedRecord;
 use crate::SetsRecord;
+use crate::StatusRecord;
 use crate::Terminal;
 use crate::numbers::flag_number;
 use cells::Rendition;
 use cells::words::set_number;
+use core::LineSaved;
 use core::Modes;
 use core::Saved;
+use core::StatusLine;
 use device::charsets::Sets;
 use device::charsets::register_number;
 use device::charsets::shift_number;
@@ -103,10 +107,36 @@ fn parser_record(parser: Parser) -> ParserRecord
     }
 }
 
+fn line_saved_record(saved: LineSaved) -> LineSavedRecord
+    ensures { λ r. ⌜ r ≡ records.lineSavedRecord saved ⌝ }
+{
+    let shift = saved.shift;
+    LineSavedRecord {
+        column: saved.column,
+        wrap: flag_number(saved.wrap),
+        rendition: rendition_record(saved.rendition),
+        sets: sets_record(saved.sets),
+        protected: flag_number(saved.protected),
+        shift: shift_number(shift),
+    }
+}
+
+fn status_record(line: StatusLine) -> StatusRecord
+    ensures { λ r. ⌜ r ≡ records.statusRecord line ⌝ }
+{
+    StatusRecord {
+        present: flag_number(line.present),
+        active: flag_number(line.active),
+        column: line.column,
+        wrap: flag_number(line.wrap),
+        saved: line_saved_record(line.saved),
+    }
+}
+
 pub fn record_of(state: State) -> Terminal
     ensures { λ r. ⌜ r ≡ records.recordOf state ⌝ }
 {
-    let core = state.core;
+    let core = state.displays.core;
     let parser = core.parser;
     let params = parser.params;
     let values = params.values;
@@ -129,5 +159,8 @@ pub fn record_of(state: State) -> Terminal
         sets: sets_record(core.sets),
         saved: saved_record(core.saved),
         parser: parser_record(parser),
+        status: status_record(state.displays.line),
+        flag: flag_number(state.tracked.flag),
+        unused: [0u8; 5],
     }
 }

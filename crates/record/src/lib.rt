@@ -59,6 +59,26 @@ pub struct ParserRecord {
 }
 
 #[repr(C)]
+pub struct LineSavedRecord {
+    pub column: u8,
+    pub wrap: u8,
+    pub rendition: RenditionRecord,
+    pub sets: SetsRecord,
+    pub protected: u8,
+    pub shift: u8,
+}
+
+#[repr(C)]
+pub struct StatusRecord {
+    pub present: u8,
+    pub active: u8,
+    pub column: u8,
+    pub wrap: u8,
+    pub saved: LineSavedRecord,
+}
+
+// The last bytes are always written 0 and never looked at: with them every byte is a field's.
+#[repr(C)]
 pub struct Terminal {
     pub changed: u64,
     pub values: [u16; 16],
@@ -74,4 +94,7 @@ pub struct Terminal {
     pub sets: SetsRecord,
     pub saved: SavedRecord,
     pub parser: ParserRecord,
+    pub status: StatusRecord,
+    pub flag: u8,
+    pub unused: [u8; 5],
 }

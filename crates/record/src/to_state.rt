@@ -1,18 +1,23 @@
 // The state that a record holds.
 use crate::CursorRecord;
+use crate::LineSavedRecord;
 use crate::ModesRecord;
 use crate::ParserRecord;
 use crate::RenditionRecord;
 use crate::SavedRecord;
 use crate::SetsRecord;
+use crate::StatusRecord;
 use crate::Terminal;
 use crate::numbers::is_on;
 use cells::Rendition;
 use cells::words::set_of;
 use core::Core;
+use core::Displays;
+use core::LineSaved;
 use core::Margins;
 use core::Modes;
 use core::Saved;
+use core::StatusLine;
 use device::charsets::Sets;
 use device::charsets::register_of;
 use device::charsets::shift_of;
@@ -129,6 +134,31 @@ fn core_of(terminal: Terminal, rows: u8) -> Core
     }
 }
 
+fn line_saved_of(saved: LineSavedRecord) -> LineSaved
+    ensures { λ r. ⌜ r ≡ records.lineSavedOf saved ⌝ }
+{
+    LineSaved {
+        column: saved.column,
+        wrap: is_on(saved.wrap),
+        rendition: rendition_of(saved.rendition),
+        sets: sets_of(saved.sets),
+        protected: is_on(saved.protected),
+        shift: shift_of(saved.shift),
+    }
+}
+
+fn line_of(status: StatusRecord) -> StatusLine
+    ensures { λ r. ⌜ r ≡ records.lineOf status ⌝ }
+{
+    StatusLine {
+        present: is_on(status.present),
+        active: is_on(status.active),
+        column: status.column,
+        wrap: is_on(status.wrap),
+        saved: line_saved_of(status.saved),
+    }
+}
+
 // ---- a record whose numbers all name something
 
 fn rendition_named(rendition: RenditionRecord) -> bool
@@ -172,6 +202,21 @@ fn saved_named(saved: SavedRecord) -> bool
         & (saved.shift < 3)
 }
 
+fn line_saved_named(saved: LineSavedRecord) -> bool
+    ensures { λ r. ⌜ r ≡ records.lineSavedNamed saved ⌝ }
+{
+    let rendition = rendition_named(saved.rendition);
+    let sets = sets_named(saved.sets);
+    (saved.wrap < 2) & rendition & sets & (saved.protected < 2) & (saved.shift < 3)
+}
+
+fn status_named(status: StatusRecord) -> bool
+    ensures { λ r. ⌜ r ≡ records.statusNamed status ⌝ }
+{
+    let saved = line_saved_named(status.saved);
+    (status.present < 2) & (status.active < 2) & (status.wrap < 2) & saved
+}
+
 fn named(terminal: Terminal) -> bool
     ensures { λ r. ⌜ r ≡ records.named terminal ⌝ }
 {
@@ -181,6 +226,7 @@ fn named(terminal: Terminal) -> bool
     let rendition = rendition_named(terminal.rendition);
     let sets = sets_named(terminal.sets);
     let saved = saved_named(terminal.saved);
+    let status = status_named(terminal.status);
     (terminal.protected < 2)
         & (terminal.shift < 3)
         & (cursor.wrap < 2)
@@ -189,24 +235,29 @@ fn named(terminal: Terminal) -> bool
         & rendition
         & sets
         & saved
+        & status
+        & (terminal.flag < 2)
 }
 
 // A record with a number that names nothing is that of a terminal without rows, which is broken.
 pub fn state_of(terminal: Terminal) -> State
     ensures { λ r. ⌜ r ≡ records.stateOf terminal ⌝ }
 {
+    let line = line_of(terminal.status);
+    let tracked = Tracked {
+        changed: terminal.changed,
+        flag: is_on(terminal.flag),
+    };
     if !named(terminal) {
+        let core = core_of(terminal, 0);
         return State {
-            core: core_of(terminal, 0),
-            tracked: Tracked {
-                changed: terminal.changed,
-            },
+            displays: Displays { core, line },
+            tracked,
         };
     }
+    let core = core_of(terminal, terminal.rows);
     State {
-        core: core_of(terminal, terminal.rows),
-        tracked: Tracked {
-            changed: terminal.changed,
-        },
+        displays: Displays { core, line },
+        tracked,
     }
 }

@@ -22,6 +22,7 @@ use Rattle.parser.specs.declared.phases.Phase.the-variants.{Ground}
 use Rattle.parser.proofs.PhaseLaws.{phase-same}
 use Rattle.parser.specs.Phases.{isGround}
 use Rattle.parser.specs.declared.parser.Parser.{Parser}
+use Rattle.parser.specs.declared.parser.Decoded.{Decoded}
 use Rattle.parser.specs.declared.parser.Action.the-variants.{Control}
 use Rattle.parser.specs.declared.phases.Op.the-variants.{Execute}
 use Rattle.parser.specs.Parser.{to, transition, inPhase, decode}
@@ -46,11 +47,11 @@ use Rattle.dispatch.proofs.HeardLaws.{reply-heard}
 use Rattle.dispatch.specs.WrapDue.{clearsWrap, withWrapPolicy}
 use Rattle.dispatch.specs.Decide.{executed, decided, sends}
 use Rattle.wholeness.proofs.Sound.{decided-sound}
-use Rattle.dispatch.proofs.PlainByte.{graphic, plain-decides, plain-silent}
-use Rattle.steps.specs.Steps.{acted}
+use Rattle.dispatch.proofs.PlainByte.{graphic, plain-decode, plain-decides, plain-silent}
+use Rattle.steps.specs.Steps.{editedBy}
 use Rattle.steps.specs.Ready.{Paged}
-use Rattle.steps.specs.Spans.{isCharacter, isUnshifted, printsDirectly, lineStart, Direct, Moves}
-use Rattle.steps.proofs.ByteLaws.{acted-is}
+use Rattle.steps.specs.Spans.{isCharacter, isUnshifted, printsDirectly, lineStart, Direct, isSingle, editsOf, Moves}
+use Rattle.steps.proofs.ByteLaws.{edits-are}
 
 -- ---- what the tests tell
 
@@ -107,6 +108,9 @@ module _ (c : Core) (b : ℕ) (plain : printsDirectly c ≡ true) (char : isChar
   unfolding sends replyBytes
   put-silent = ap (replyBytes (c .modes .eightbit)) (sym (plain-silent c b ground (character-is b char .graphic-is)))
 
+  put-single : isSingle (decode (c .parser) b .action) ≡ true
+  put-single = ap (λ (d : Decoded). isSingle (d .action)) (plain-decode (c .parser) b ground (character-is b char .graphic-is))
+
   unskipped : skipped (usedSet c b) b ≡ false
   unskipped = ap (λ (t : Bool). not (has96 (usedSet c b)) && t) (character-is b char .shown) ∙ and-false (not (has96 (usedSet c b)))
 
@@ -143,6 +147,9 @@ control-silent : (c : Core) (b : ℕ) → printsDirectly c ≡ true → b < 0x18
 unfolding sends replyBytes
 control-silent c b h l =
     rw (control-decode (c .parser) b (plain-ground c h) l) (ap (replyBytes (c .modes .eightbit)) (sym (reply-heard c (Control b))))
+
+control-single : (c : Core) (b : ℕ) → printsDirectly c ≡ true → b < 0x18 → isSingle (decode (c .parser) b .action) ≡ true
+control-single c b h l = ap (λ (d : Decoded). isSingle (d .action)) (control-decode (c .parser) b (plain-ground c h) l)
 
 -- CR
 return-decides : (c : Core) → printsDirectly c ≡ true → oneEdit (withCursor c (toColumn (c .cursor) (leftStop c))) Keep ≡ decided c 0x0D
@@ -189,28 +196,35 @@ start-row false u left = refl
 
 -- ---- a step that moves the cursor and makes one edit
 
-moves-by : (c : Core) (p q : List ℕ) (b m : ℕ) (u : Cursor) (e : Edit) → Paged c p → oneEdit (withCursor c u) e ≡ decided c b → length q ≡ length p
-    → Applied (c .rows) e p q m → record { core = withCursor c u; page = q; changed = m } ≡ acted c p b
-moves-by c p q b m u e k d el A =
-    ap (λ (n : ℕ). record { core = withCursor c u; page = q; changed = n }) (sym (or-zero-r m))
-    ∙ acted-is c b p q q (oneEdit (withCursor c u) e) m 0 k d (A .page) (A .marked)
-    (sym (keep-applied (c .rows) q (el ∙ k .size))) (sym (changed-none (c .rows) q))
+moves-by : (c : Core) (p q : List ℕ) (b m : ℕ) (u : Cursor) (e : Edit) → Paged c p → sends c b ≡ [] → isSingle (decode (c .parser) b .action) ≡ true
+    → oneEdit (withCursor c u) e ≡ decided c b → length q ≡ length p → Applied (c .rows) e p q m → Moves c p b u m q
+moves-by c p q b m u e k quiet single d el A =
+    let r = c .rows in
+    let within : Within r e = subst (λ (x : Decision). Within r (x .first)) (sym d) (decided-sound c b (k .whole) .first) in
+    record {
+      silent = quiet;
+      single = single;
+      core-is = ap (λ (x : Decision). x .core) d;
+      page-is =
+          ap (λ (n : ℕ). record { page = q; changed = n }) (sym (or-zero-r m))
+          ∙ edits-are r (record { first = e; second = Keep }) p q q m 0 (k .size) within tt (A .page) (A .marked)
+          (sym (keep-applied r q (el ∙ k .size))) (sym (changed-none r q))
+          ∙ ap (λ (x : Decision). editedBy r (editsOf x) p) d;
+    }
 
 -- CR
 pub return-moves : (c : Core) (p : List ℕ) (b : ℕ) → Direct c p → b ≡ 0x0D → Moves c p b (toColumn (c .cursor) (leftStop c)) 0 p
-return-moves c p b D e = record {
-  silent = control-silent c b (D .direct) (omega arith);
-  acted-is = moves-by c p p b 0 _ Keep (D .paged) (return-decides c (D .direct) ∙ ap (decided c) (sym e)) refl
-      (record { page = sym (keep-applied (c .rows) p (D .paged .size)); marked = sym (changed-none (c .rows) p) });
-}
+return-moves c p b D e =
+    moves-by c p p b 0 _ Keep (D .paged) (control-silent c b (D .direct) (omega arith)) (control-single c b (D .direct) (omega arith))
+    (return-decides c (D .direct) ∙ ap (decided c) (sym e)) refl
+    (record { page = sym (keep-applied (c .rows) p (D .paged .size)); marked = sym (changed-none (c .rows) p) })
 
 -- LF, VT, FF
 pub line-moves : (c : Core) (p q : List ℕ) (b m : ℕ) → Direct c p → between 0x0A b 0x0C ≡ true → length q ≡ length p
     → Applied (c .rows) (indexEdit (c .margins) (stopsOf c) (lineStart c)) p q m → Moves c p b (index (lineStart c) (c .margins .bottom) (c .rows)) m q
-line-moves c p q b m D e el A = record {
-  silent = control-silent c b (D .direct) (line-low b e);
-  acted-is = moves-by c p q b m _ _ (D .paged) (line-decides c b (D .direct) e) el A;
-}
+line-moves c p q b m D e el A =
+    moves-by c p q b m _ _ (D .paged) (control-silent c b (D .direct) (line-low b e)) (control-single c b (D .direct) (line-low b e))
+    (line-decides c b (D .direct) e) el A
 
 -- a character: its cell is on the page
 pub put-moves : (c : Core) (p q : List ℕ) (b w m : ℕ) → Direct c p → isCharacter b ≡ true → c .cursor .wrap ≡ false → w ≡ glyph c b
@@ -219,7 +233,5 @@ put-moves c p q b w m D char wrap e E =
     let bounds = D .paged .whole .parts .bounds in
     let edit : ℕ → Edit = λ (x : ℕ). Put (c .cursor .row - 1) (c .cursor .column - 1) x in
     let fits : Fits (c .rows) (edit (glyph c b)) p = record { long = D .paged .size; few = omega arith; within = (omega arith, omega arith) } in
-    record {
-      silent = put-silent c b (D .direct) char;
-      acted-is = moves-by c p q b m _ _ (D .paged) (put-decides c b (D .direct) char wrap) (E .long) (edited-applied fits (ap edit (sym e)) E);
-    }
+    moves-by c p q b m _ _ (D .paged) (put-silent c b (D .direct) char) (put-single c b (D .direct) char) (put-decides c b (D .direct) char wrap) (E .long)
+    (edited-applied fits (ap edit (sym e)) E)

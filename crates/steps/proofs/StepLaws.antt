@@ -20,12 +20,11 @@ use Rattle.cells.proofs.BitLaws.{bits-ext, bits-own, added-lt}
 use Rattle.cells.proofs.RowLaws.{changed-in}
 use Rattle.ground.proofs.TestLaws.{either}
 use Rattle.page.proofs.EditLaws.{keep-applied, length-applied}
-use Rattle.core.specs.declared.Core.{Core}
-use Rattle.dispatch.specs.Decide.{decided, sends}
-use Rattle.wholeness.proofs.Decisions.{Sound}
-use Rattle.wholeness.proofs.Sound.{decided-sound}
+use Rattle.core.specs.declared.Displays.{Displays}
+use Rattle.dispatch.specs.Displays.{Edits, carriedOut, sendsOf}
+use Rattle.wholeness.proofs.SoundDisplays.{SoundCarried, carried-out-sound}
 use Rattle.steps.specs.Ready.{Ready}
-use Rattle.steps.specs.Steps.{Screen, Marked, edited, acted, stepped, ran, ranCore, sent, readable}
+use Rattle.steps.specs.Steps.{Screen, Marked, edited, editedBy, acted, stepped, ran, ranDisplays, sent, readable}
 
 -- ---- appended input
 
@@ -34,56 +33,56 @@ unfolding ran
 ran-append d [] ys = refl
 ran-append d (x ∷ xs) ys = ran-append (stepped d x) xs ys
 
-pub sent-append : (c : Core) (xs ys : List ℕ) → sent c (xs ++ ys) ≡ sent c xs ++ sent (ranCore c xs) ys
-unfolding sent ranCore
-sent-append c [] ys = refl
-sent-append c (x ∷ xs) ys = rw (sent-append (decided c x .core) xs ys, append-assoc)
+pub sent-append : (k : Displays) (xs ys : List ℕ) → sent k (xs ++ ys) ≡ sent k xs ++ sent (ranDisplays k xs) ys
+unfolding sent ranDisplays
+sent-append k [] ys = refl
+sent-append k (x ∷ xs) ys = rw (sent-append (carriedOut k x .displays) xs ys, append-assoc)
 
-pub stepped-core : (d : Screen) (b : ℕ) → stepped d b .core ≡ decided (d .core) b .core
+pub stepped-displays : (d : Screen) (b : ℕ) → stepped d b .displays ≡ carriedOut (d .displays) b .displays
 unfolding stepped acted
-stepped-core d b = refl
+stepped-displays d b = refl
 
--- the core of a run depends on no page
-pub ran-core : (d : Screen) (xs : List ℕ) → ran d xs .core ≡ ranCore (d .core) xs
-unfolding ran ranCore
-ran-core d [] = refl
-ran-core d (x ∷ xs) = ran-core (stepped d x) xs ∙ ap (λ (c : Core). ranCore c xs) (stepped-core d x)
+-- the displays of a run depend on no cell
+pub ran-displays : (d : Screen) (xs : List ℕ) → ran d xs .displays ≡ ranDisplays (d .displays) xs
+unfolding ran ranDisplays
+ran-displays d [] = refl
+ran-displays d (x ∷ xs) = ran-displays (stepped d x) xs ∙ ap (λ (k : Displays). ranDisplays k xs) (stepped-displays d x)
 
 -- ---- how much is read
 
-pub readable-fits : (room : ℕ) (c : Core) (b : ℕ) (bs : List ℕ) → length (sends c b) ≤ room
-    → readable room c (b ∷ bs) ≡ suc (readable (room - length (sends c b)) (decided c b .core) bs)
+pub readable-fits : (room : ℕ) (k : Displays) (b : ℕ) (bs : List ℕ) → length (sendsOf k b) ≤ room
+    → readable room k (b ∷ bs) ≡ suc (readable (room - length (sendsOf k b)) (carriedOut k b .displays) bs)
 unfolding readable
-readable-fits room c b bs h = rw (le-ltb room (length (sends c b)) h)
+readable-fits room k b bs h = rw (le-ltb room (length (sendsOf k b)) h)
 
-pub readable-full : (room : ℕ) (c : Core) (b : ℕ) (bs : List ℕ) → room < length (sends c b) → readable room c (b ∷ bs) ≡ 0
+pub readable-full : (room : ℕ) (k : Displays) (b : ℕ) (bs : List ℕ) → room < length (sendsOf k b) → readable room k (b ∷ bs) ≡ 0
 unfolding readable
-readable-full room c b bs h = rw (lt-ltb room (length (sends c b)) h)
+readable-full room k b bs h = rw (lt-ltb room (length (sendsOf k b)) h)
 
 -- what is sent fits
-pub sent-fits : (room : ℕ) (c : Core) (bs : List ℕ) → length (sent c (take (readable room c bs) bs)) ≤ room
+pub sent-fits : (room : ℕ) (k : Displays) (bs : List ℕ) → length (sent k (take (readable room k bs) bs)) ≤ room
 unfolding sent readable
-sent-fits room c [] = zero-le
-sent-fits room c (b ∷ bs) =
-    either (λ (k : ℕ). length (sent c (take k (b ∷ bs))) ≤ room) (ltb room (length (sends c b))) (λ _. zero-le)
-    (λ e. let l = ltb-false room (length (sends c b)) e in rw length-append (omega (arith, sent-fits (room - length (sends c b)) (decided c b .core) bs)))
+sent-fits room k [] = zero-le
+sent-fits room k (b ∷ bs) =
+    either (λ (n : ℕ). length (sent k (take n (b ∷ bs))) ≤ room) (ltb room (length (sendsOf k b))) (λ _. zero-le)
+    (λ e. let l = ltb-false room (length (sendsOf k b)) e in rw length-append (omega (arith, sent-fits (room - length (sendsOf k b)) (carriedOut k b .displays) bs)))
 
 -- all is read where all that is sent fits
-pub reads-all : (room : ℕ) (c : Core) (bs : List ℕ) → length (sent c bs) ≤ room → readable room c bs ≡ length bs
+pub reads-all : (room : ℕ) (k : Displays) (bs : List ℕ) → length (sent k bs) ≤ room → readable room k bs ≡ length bs
 unfolding sent readable
-reads-all room c [] h = refl
-reads-all room c (b ∷ bs) h =
-    let l : length (sends c b) + length (sent (decided c b .core) bs) ≤ room = rw length-append at h in
-    let f : length (sends c b) ≤ room = omega arith in
-    let m : length (sent (decided c b .core) bs) ≤ room - length (sends c b) = omega arith in
-    rw (le-ltb room (length (sends c b)) f, reads-all (room - length (sends c b)) (decided c b .core) bs m)
+reads-all room k [] h = refl
+reads-all room k (b ∷ bs) h =
+    let l : length (sendsOf k b) + length (sent (carriedOut k b .displays) bs) ≤ room = rw length-append at h in
+    let f : length (sendsOf k b) ≤ room = omega arith in
+    let m : length (sent (carriedOut k b .displays) bs) ≤ room - length (sendsOf k b) = omega arith in
+    rw (le-ltb room (length (sendsOf k b)) f, reads-all (room - length (sendsOf k b)) (carriedOut k b .displays) bs m)
 
-pub readable-most : (room : ℕ) (c : Core) (bs : List ℕ) → readable room c bs ≤ length bs
+pub readable-most : (room : ℕ) (k : Displays) (bs : List ℕ) → readable room k bs ≤ length bs
 unfolding readable
-readable-most room c [] = zero-le
-readable-most room c (b ∷ bs) =
-    either (λ (k : ℕ). k ≤ suc (length bs)) (ltb room (length (sends c b))) (λ _. zero-le)
-    (λ _. omega (arith, readable-most (room - length (sends c b)) (decided c b .core) bs))
+readable-most room k [] = zero-le
+readable-most room k (b ∷ bs) =
+    either (λ (n : ℕ). n ≤ suc (length bs)) (ltb room (length (sendsOf k b))) (λ _. zero-le)
+    (λ _. omega (arith, readable-most (room - length (sendsOf k b)) (carriedOut k b .displays) bs))
 
 -- ---- one step
 
@@ -124,12 +123,12 @@ edited-changed r e m h l w =
 -- ---- a byte
 
 abbrev pub ReadyAt : Screen → Type 0
-ReadyAt d = Ready (record { core = d .core; tracked = d .tracked }) (d .page)
+ReadyAt d = Ready (record { displays = d .displays; tracked = d .tracked }) (d .buffers .page)
 
 -- a page of r rows, with changed rows among them
-record MarkedFits (r : ℕ) (m : Marked) : Type 0 where
-  size : length (m .page) ≡ 80 * r
-  few : m .changed < 2 ^ r
+pub record MarkedFits (r : ℕ) (m : Marked) : Type 0 where
+  pub size : length (m .page) ≡ 80 * r
+  pub few : m .changed < 2 ^ r
 
 marked-edited : (r : ℕ) (e : Edit) (m : Marked) → MarkedFits r m → Within r e → MarkedFits r (edited r e m)
 marked-edited r e m b w = record {
@@ -137,31 +136,41 @@ marked-edited r e m b w = record {
   few = rw (edited-changed r e m (b .size) (b .few) w) (added-lt r (m .changed) (changed (m .page) (applied r e (m .page))));
 }
 
+-- both edits leave a page of as many rows
+pub edited-fits : (r : ℕ) (x : Edits) (p : List ℕ) → length p ≡ 80 * r → Within r (x .first) → Within r (x .second) → MarkedFits r (editedBy r x p)
+edited-fits r x p h f s = marked-edited r (x .second) _ (marked-edited r (x .first) _ (record { size = h; few = pow-pos r }) f) s
+
 module _ (d : Screen) (b : ℕ) (k : ReadyAt d) where
-  pub step-rows : stepped d b .core .rows ≡ d .core .rows
+  pub step-rows : stepped d b .displays .core .rows ≡ d .displays .core .rows
   unfolding stepped acted
-  step-rows = decided-sound (d .core) b (k .whole .core) .rows
+  step-rows = carried-out-sound (d .displays) b (k .whole .displays) .rows
 
   pub ready-step : ReadyAt (stepped d b)
   unfolding stepped acted
   ready-step =
-      let n = d .core .rows in
-      let x = decided (d .core) b in
-      let s : Sound n x = decided-sound (d .core) b (k .whole .core) in
-      let start : MarkedFits n (record { page = d .page; changed = 0 }) = record { size = k .size; few = pow-pos n } in
-      let m : Marked = edited n (x .second) (edited n (x .first) (record { page = d .page; changed = 0 })) in
-      let end : MarkedFits n m = marked-edited n (x .second) _ (marked-edited n (x .first) _ start (s .first)) (s .second) in
+      let n = d .displays .core .rows in
+      let x = carriedOut (d .displays) b in
+      let s : SoundCarried n x = carried-out-sound (d .displays) b (k .whole .displays) in
+      let end = edited-fits n (x .page) (d .buffers .page) (k .size) (s .page-first) (s .page-second) in
       record {
         whole = record {
-          core = s .whole;
+          displays = s .whole;
           size = rw (s .rows) (k .whole .size);
-          changed = rw (s .rows) (or-lt n (d .tracked .changed) (m .changed) (k .whole .changed) (end .few));
+          changed = rw (s .rows) (or-lt n (d .tracked .changed) (editedBy n (x .page) (d .buffers .page) .changed) (k .whole .changed) (end .few));
         };
         size = rw (s .rows) (end .size);
       }
 
-  pub step-long : length (stepped d b .page) ≡ length (d .page)
+  pub step-long : length (stepped d b .buffers .page) ≡ length (d .buffers .page)
   step-long = ready-step .size ∙ ap (λ (n : ℕ). 80 * n) step-rows ∙ sym (k .size)
+
+  -- and so is the line's
+  pub line-long : length (d .buffers .line) ≡ 80 → length (stepped d b .buffers .line) ≡ 80
+  unfolding stepped acted
+  line-long h =
+      let x = carriedOut (d .displays) b in
+      let s = carried-out-sound (d .displays) b (k .whole .displays) in
+      edited-fits 1 (x .line) (d .buffers .line) h (s .line-first) (s .line-second) .size
 
 pub ready-ran : (d : Screen) (bs : List ℕ) → ReadyAt d → ReadyAt (ran d bs)
 unfolding ran

@@ -19,8 +19,8 @@ ghost use lib.ListN.{length};
 ghost use Rattle.ground.specs.Tests as tests;
 ghost use Rattle.device.specs.Cursor.{toColumn};
 ghost use Rattle.core.specs.Effects.{withCursor};
-ghost use Rattle.steps.specs.Ready.{Ready};
-ghost use Rattle.steps.specs.Spans.{isCharacter, isUnshifted, printsDirectly, Direct, Moves, moved, Spanned};
+ghost use Rattle.steps.specs.Ready.{PageReady};
+ghost use Rattle.steps.specs.Spans.{isCharacter, isUnshifted, printsDirectly, Direct, Moves, SpannedBeside};
 
 // Where the cursor went, what is tracked, and the place of the next byte.
 pub struct Characters {
@@ -124,8 +124,8 @@ fn print_directly(
     input: &[u8],
     from: usize,
 ) -> Characters
-    requires { ⌜ Ready (record { core = core; tracked = tracked }) (now page) × (from ≤ length (now input)) × (printsDirectly core ≡ true) ⌝ }
-    ensures { λ r. ⌜ Spanned (record { core = core; tracked = tracked }) (now (page .entry)) (now (input .entry)) from (r .next) (moved core r) (now (page .exit)) ⌝ }
+    requires { ⌜ PageReady core tracked (now page) × (from ≤ length (now input)) × (printsDirectly core ≡ true) ⌝ }
+    ensures { λ r. ⌜ SpannedBeside false core tracked (now (page .entry)) (now (input .entry)) from (r .next) (withCursor core (r .cursor)) (r .tracked) (now (page .exit)) ⌝ }
 {
     let mut cursor = core.cursor;
     let mut tracked = tracked;
@@ -135,7 +135,7 @@ fn print_directly(
         if is_character(byte) & !cursor.wrap {
             let done = put_character(core, cursor, byte, page);
             cursor = done.cursor;
-            tracked = tracked.note(done.changed);
+            tracked = tracked.note(done.changed, false);
             i += 1;
         } else if byte == 0x0D {
             cursor = cursor.to_column(left_stop(core));
@@ -143,7 +143,7 @@ fn print_directly(
         } else if between(0x0A, byte, 0x0C) {
             let done = line_feed(core, cursor, byte, page);
             cursor = done.cursor;
-            tracked = tracked.note(done.changed);
+            tracked = tracked.note(done.changed, false);
             i += 1;
         } else {
             return stopped(cursor, tracked, i);
@@ -152,18 +152,19 @@ fn print_directly(
     stopped(cursor, tracked, i)
 }
 
-// As many as there are from here on.
+// As many as there are from here on, unless the line is active.
 pub fn print_characters(
     core: Core,
+    aside: bool,
     tracked: Tracked,
     page: &mut [u16],
     input: &[u8],
     from: usize,
 ) -> Characters
-    requires { ⌜ Ready (record { core = core; tracked = tracked }) (now page) × (from ≤ length (now input)) ⌝ }
-    ensures { λ r. ⌜ Spanned (record { core = core; tracked = tracked }) (now (page .entry)) (now (input .entry)) from (r .next) (moved core r) (now (page .exit)) ⌝ }
+    requires { ⌜ PageReady core tracked (now page) × (from ≤ length (now input)) ⌝ }
+    ensures { λ r. ⌜ SpannedBeside aside core tracked (now (page .entry)) (now (input .entry)) from (r .next) (withCursor core (r .cursor)) (r .tracked) (now (page .exit)) ⌝ }
 {
-    if prints_directly(core) {
+    if prints_directly(core) & !aside {
         return print_directly(core, tracked, page, input, from);
     }
     let cursor = core.cursor;

@@ -1,5 +1,5 @@
--- Asking for the changed rows: the set, how many rows are in it, and the state with the set emptied.
-use mathlib.Core.Bool.{cond}
+-- Asking for the changed rows: the set, how many rows are in it, the line's flag, and the state with the set emptied and the flag cleared.
+use mathlib.Core.Bool.{Bool, false, cond}
 use Prim.Native.Nat.{ℕ}
 use Rattle.cells.specs.Sets.{sizeOf, hasBit}
 use Rattle.steps.specs.declared.State.{State}
@@ -18,17 +18,18 @@ pub record Ask : Type 0 where
 abbrev pub askAnswer : State → Answer
 askAnswer s = cond (wholeState s) Done Broken
 
-abbrev pub askAs : Answer → ℕ → ℕ → State → Ask
-askAs a rows count s = record { number = number a; result = record { answer = a; rows = rows; count = count; state = s } }
+abbrev pub askAs : Answer → ℕ → ℕ → Bool → State → Ask
+askAs a rows count flag s = record { number = number a; result = record { answer = a; rows = rows; count = count; flag = flag; state = s } }
 
 abbrev pub askDone : State → Ask
 askDone s =
     let rows = s .tracked .changed in
-    askAs Done rows (sizeOf (s .core .rows) (hasBit rows)) (record { core = s .core; tracked = record { changed = 0 } })
+    askAs Done rows (sizeOf (s .displays .core .rows) (hasBit rows)) (s .tracked .flag)
+    (record { displays = s .displays; tracked = record { changed = 0; flag = false } })
 
--- the empty set, 0, and the state as it came
+-- the empty set, 0, the flag unset, and the state as it came
 abbrev pub askRefused : Answer → State → Ask
-askRefused a s = askAs a 0 0 s
+askRefused a s = askAs a 0 0 false s
 
 -- returned. Asking answers 0 or 1.
 abbrev pub askGives : Answer → State → Ask

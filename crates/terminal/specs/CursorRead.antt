@@ -22,7 +22,9 @@ abbrev pub cursorAs : Answer → ℕ → ℕ → Bool → Bool → CursorReading
 cursorAs a row column wrap shown = record { number = number a; result = record { answer = a; row = row; column = column; wrap = wrap; shown = shown } }
 
 abbrev pub cursorDone : State → CursorReading
-cursorDone s = cursorAs Done (s .core .cursor .row) (s .core .cursor .column) (s .core .cursor .wrap) (s .core .modes .shown)
+cursorDone s =
+    cursorAs Done (s .displays .core .cursor .row) (s .displays .core .cursor .column) (s .displays .core .cursor .wrap)
+    (s .displays .core .modes .shown)
 
 abbrev pub cursorRefused : Answer → CursorReading
 cursorRefused a = cursorAs a 0 0 false false

@@ -4,3 +4,4 @@ pub mod Feed
 pub mod Ask
 pub mod Read
 pub mod CursorRead
+pub mod Row

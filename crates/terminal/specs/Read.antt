@@ -27,7 +27,7 @@ pub record Read : Type 0 where
 abbrev pub readAnswer : State → List ℕ → ℕ → ℕ → Answer
 readAnswer s p r c =
     cond (wholeState s)
-    (cond (rightSize (s .core .rows) p) (cond (onPage (s .core .rows) r c) Done OffPage) WrongSize)
+    (cond (rightSize (s .displays .core .rows) p) (cond (onPage (s .displays .core .rows) r c) Done OffPage) WrongSize)
     Broken
 
 -- the word that is returned. Reading a cell does not answer 3.

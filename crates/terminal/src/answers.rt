@@ -1,4 +1,4 @@
-// The scope's number of an answer.
+// The scope's number of an answer, and which answers refuse.
 use crate::Answer;
 ghost use mathlib.Core.Path.{_≡_};
 ghost use Rattle.terminal.specs.Answers as answers;
@@ -12,5 +12,17 @@ pub fn number(answer: Answer) -> u8
         Answer::WrongSize => 2,
         Answer::NoRoom => 3,
         Answer::OffPage => 4,
+    }
+}
+
+pub fn is_refusal(answer: Answer) -> bool
+    ensures { λ r. ⌜ r ≡ answers.refusal answer ⌝ }
+{
+    match answer {
+        Answer::Done => false,
+        Answer::Broken => true,
+        Answer::WrongSize => true,
+        Answer::NoRoom => false,
+        Answer::OffPage => true,
     }
 }

@@ -8,7 +8,9 @@ use crate::Started;
 use crate::whole::is_whole;
 use cells::BLANK;
 use cells::marks::count_rows;
+use core::Displays;
 use core::fresh::fresh_core;
+use core::status::fresh_line;
 use feeding::bytes::feed_bytes;
 use page::edits::clear;
 use steps::State;
@@ -16,6 +18,7 @@ use steps::Tracked;
 ghost use mathlib.Core.Path.{_≡_};
 ghost use mathlib.Core.Bool.{cond};
 ghost use Rattle.terminal.specs.declared.Answer.the-variants.{Done, NoRoom};
+ghost use Rattle.steps.specs.Steps.{buffers};
 ghost use Rattle.terminal.specs.Answers.{number};
 ghost use Rattle.terminal.specs.Start as starting;
 ghost use Rattle.terminal.specs.Feed.{fed};
@@ -27,14 +30,21 @@ fn fresh(rows: u8) -> State
     ensures { λ r. ⌜ r ≡ starting.fresh rows ⌝ }
 {
     State {
-        core: fresh_core(rows),
-        tracked: Tracked { changed: 0 },
+        displays: Displays {
+            core: fresh_core(rows),
+            line: fresh_line(),
+        },
+        tracked: Tracked {
+            changed: 0,
+            flag: false,
+        },
     }
 }
 
-// Starts a page of 24, 36 or 48 rows: every cell blank, the state fresh.
-pub fn start(rows: usize, page: &mut [u16]) -> Started
-    ensures { λ r. ⌜ record { number = number (r .answer); result = r; page = now (page .exit) } ≡ starting.started rows (now (page .entry)) ⌝ }
+// Starts a page of 24, 36 or 48 rows: every cell of page and line blank, the state fresh.
+pub fn start(rows: usize, page: &mut [u16], line: &mut [u16]) -> Started
+    ensures { λ r. ⌜ record { number = number (r .answer); result = r; buffers = buffers (now (page .exit)) (now (line .exit)) }
+        ≡ starting.started rows (buffers (now (page .entry)) (now (line .entry))) ⌝ }
 {
     if !((rows == 24) | (rows == 36) | (rows == 48)) {
         return Started {
@@ -42,13 +52,14 @@ pub fn start(rows: usize, page: &mut [u16]) -> Started
             state: fresh(24),
         };
     }
-    if page.len() != 80 * rows {
+    if (page.len() != 80 * rows) | (line.len() != 80) {
         return Started {
             answer: Answer::WrongSize,
             state: fresh(24),
         };
     }
     clear(page);
+    clear(line);
     Started {
         answer: Answer::Done,
         state: fresh(rows as u8),
@@ -66,9 +77,9 @@ fn fitting(full: bool) -> Answer
 }
 
 // Feeds bytes from the modem, until the input ends or a reply does not fit.
-pub fn feed(state: State, page: &mut [u16], input: &[u8], reply: &mut [u8]) -> Fed
-    ensures { λ r. ⌜ record { number = number (r .answer); result = r; page = now (page .exit); reply = now (reply .exit) }
-        ≡ fed state (now (page .entry)) (now (input .entry)) (now (reply .entry)) ⌝ }
+pub fn feed(state: State, page: &mut [u16], line: &mut [u16], input: &[u8], reply: &mut [u8]) -> Fed
+    ensures { λ r. ⌜ record { number = number (r .answer); result = r; buffers = buffers (now (page .exit)) (now (line .exit)); reply = now (reply .exit) }
+        ≡ fed state (buffers (now (page .entry)) (now (line .entry))) (now (input .entry)) (now (reply .entry)) ⌝ }
 {
     if !is_whole(state) {
         return Fed {
@@ -78,9 +89,8 @@ pub fn feed(state: State, page: &mut [u16], input: &[u8], reply: &mut [u8]) -> F
             state,
         };
     }
-    let core = state.core;
-    let rows = core.rows;
-    if page.len() != 80 * (rows as usize) {
+    let rows = state.displays.core.rows;
+    if (page.len() != 80 * (rows as usize)) | (line.len() != 80) {
         return Fed {
             answer: Answer::WrongSize,
             read: 0,
@@ -88,7 +98,7 @@ pub fn feed(state: State, page: &mut [u16], input: &[u8], reply: &mut [u8]) -> F
             state,
         };
     }
-    let done = feed_bytes(state, page, input, reply);
+    let done = feed_bytes(state, page, line, input, reply);
     let after = done.state;
     Fed {
         answer: fitting(done.full),
@@ -98,7 +108,7 @@ pub fn feed(state: State, page: &mut [u16], input: &[u8], reply: &mut [u8]) -> F
     }
 }
 
-// Asks for the changed rows, and empties the set.
+// Asks for the changed rows and the line's flag, empties the set and clears the flag.
 pub fn ask(state: State) -> Asked
     ensures { λ r. ⌜ record { number = number (r .answer); result = r } ≡ asked state ⌝ }
 {
@@ -107,23 +117,29 @@ pub fn ask(state: State) -> Asked
             answer: Answer::Broken,
             rows: 0,
             count: 0,
+            flag: false,
             state,
         };
     }
-    let core = state.core;
+    let displays = state.displays;
     let changed = state.tracked.changed;
+    let flag = state.tracked.flag;
     Asked {
         answer: Answer::Done,
         rows: changed,
         count: count_rows(changed),
+        flag,
         state: State {
-            core,
-            tracked: Tracked { changed: 0 },
+            displays,
+            tracked: Tracked {
+                changed: 0,
+                flag: false,
+            },
         },
     }
 }
 
-// Reads a cell by its row and column, counted from 1.
+// Reads a cell of the page by its row and column, counted from 1.
 pub fn read(state: State, page: &[u16], row: usize, column: usize) -> CellRead
     ensures { λ r. ⌜ record { number = number (r .answer); result = r } ≡ cellRead state (now (page .entry)) row column ⌝ }
 {
@@ -133,8 +149,7 @@ pub fn read(state: State, page: &[u16], row: usize, column: usize) -> CellRead
             word: BLANK,
         };
     }
-    let core = state.core;
-    let rows = core.rows as usize;
+    let rows = state.displays.core.rows as usize;
     if page.len() != 80 * rows {
         return CellRead {
             answer: Answer::WrongSize,
@@ -155,7 +170,7 @@ pub fn read(state: State, page: &[u16], row: usize, column: usize) -> CellRead
     }
 }
 
-// Reads the cursor: its row and column on the page, counted from 1, whatever origin mode says.
+// Reads the page's cursor: its row and column, counted from 1, whatever origin mode says.
 pub fn cursor(state: State) -> CursorRead
     ensures { λ r. ⌜ record { number = number (r .answer); result = r } ≡ cursorRead state ⌝ }
 {
@@ -168,9 +183,8 @@ pub fn cursor(state: State) -> CursorRead
             shown: false,
         };
     }
-    let core = state.core;
-    let cursor = core.cursor;
-    let modes = core.modes;
+    let cursor = state.displays.core.cursor;
+    let modes = state.displays.core.modes;
     CursorRead {
         answer: Answer::Done,
         row: cursor.row,

@@ -1,8 +1,9 @@
-// The terminal's calls: start, feed, ask for the changed rows, read a cell, read the cursor.
+// The terminal's calls: start, feed, ask for the changed rows, read a cell, a row, the cursor.
 use steps::State;
 
 pub mod answers;
 pub mod calls;
+pub mod rows;
 mod whole;
 
 // What a call answers. The numbers are in specs/Answers.antt (SCOPE 2).
@@ -10,6 +11,7 @@ pub enum Answer {
     Done,
     // The state is not whole, or, at a start, there is no page of so many rows.
     Broken,
+    // Page or line is of another length.
     WrongSize,
     NoRoom,
     OffPage,
@@ -28,11 +30,12 @@ pub struct Fed {
     pub state: State,
 }
 
-// The changed rows, and how many they are.
+// The changed rows, how many they are, and the line's flag.
 pub struct Asked {
     pub answer: Answer,
     pub rows: u64,
     pub count: u32,
+    pub flag: bool,
     pub state: State,
 }
 

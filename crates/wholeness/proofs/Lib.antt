@@ -12,3 +12,4 @@ pub mod Sound
 pub mod SoundWords
 pub mod ReplyLength
 pub mod Subparameters
+pub mod SoundDisplays

@@ -11,8 +11,11 @@ use Rattle.device.specs.declared.charsets.SingleShift.{SingleShift}
 use Rattle.parser.specs.declared.parser.Parser.{Parser}
 use Rattle.core.specs.declared.Core.{Core}
 use Rattle.core.specs.declared.Saved.{Saved}
+use Rattle.core.specs.declared.LineSaved.{LineSaved}
+use Rattle.core.specs.declared.StatusLine.{StatusLine}
 use Rattle.core.specs.Effects.{coreFrom, unedited}
 use Rattle.core.specs.Modes.{withOrigin}
+use Rattle.core.specs.StatusLine.{lineView, lineSaved, savedLine, lineBehind}
 use Rattle.core.specs.Whole.{Whole}
 use Rattle.vt.specs.Escapes.{savedOf, saveCursor, restoredFrom, restoreCursor}
 
@@ -43,3 +46,14 @@ module _ (c : Core) (w : Whole c) where
 -- A second ESC 8 does what the first did.
 pub restore-repeats : (c : Core) → restoreCursor (restoreCursor c .core) ≡ restoreCursor c
 restore-repeats c = refl
+
+-- ---- on the line, where a view is whole too (`view-whole` of SoundDisplays.antt), so that the laws above hold of it
+
+-- What ESC 7 saves there is what the line's next view, over whatever core, has saved: row 1 and origin off are no loss.
+pub line-saves : (c d : Core) (l : StatusLine) → lineView d (lineBehind l (saveCursor (lineView c l) .core)) .saved ≡ savedOf (lineView c l)
+unfolding lineView
+line-saves c d l = refl
+
+-- What the line has saved comes through a view unchanged.
+pub line-keeps-saved : (s : LineSaved) → savedLine (lineSaved s) ≡ s
+line-keeps-saved s = refl

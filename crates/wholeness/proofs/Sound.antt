@@ -22,7 +22,7 @@ use Rattle.wholeness.proofs.SoundSequences.{good-sequenced}
 
 -- an action and the policy for it
 abbrev GoodAction : Core → Action → Type 0
-GoodAction c a = Good (c .rows) (not (keepsWrap (c .parser .params) a)) (effect c a)
+GoodAction c a = Good (c .rows) (not (keepsWrap c a)) (effect c a)
 
 good-action : (c : Core) (a : Action) → Parts c → WrapOf c → isIgnored c a ≡ false → GoodAction c a
 good-action c Nothing p h n = good-unedited c false p (λ e. h)
@@ -45,7 +45,7 @@ unfolding executed clearsWrap
 executed-sound c a w = policy-sound (c .rows) (clearsWrap c a) (effect c (heard c a)) (good-heard c a (w .parts) (w .wrap))
 
 -- the parser takes the byte first
-read-whole : (c : Core) (b : ℕ) → Whole c → Whole (withParser c (decode (c .parser) b .parser))
+pub read-whole : (c : Core) (b : ℕ) → Whole c → Whole (withParser c (decode (c .parser) b .parser))
 read-whole c b w =
     let p = w .parts in
     record { parts = record { bounds = p .bounds; origin = p .origin; saved = p .saved; parser = decode-whole (c .parser) (p .parser) b }; wrap = w .wrap }

@@ -16,13 +16,14 @@ use Rattle.core.specs.Fresh.{freshCore}
 use Rattle.core.specs.Bounds.{Scrolls}
 use Rattle.core.specs.Whole.{Parts, WrapOf}
 use Rattle.core.specs.Geometry.{leftStop, rightStop, home}
+use Rattle.core.specs.StatusLine.{isLine}
 use Rattle.ground.specs.Folds.{folded}
 use Rattle.rectangles.specs.Functions.{rectangleEdit, selectExtent}
 use Rattle.csi.specs.Sequences.{rowAt, rowStart, rowsBelow, cellsRight, ansiMode, originMode, decMode, modeSet, modesSet, selectProtection}
 use Rattle.csi.specs.Sequences.{requestedMargins, marginsTaken, setMargins, softReset, plainSequence, privateSequence, sequenced}
-use Rattle.parser.specs.Families.{isPlain, isPrivate, isProtection, isSoftReset, isRectangle, isExtent}
+use Rattle.parser.specs.Families.{isPlain, isPrivate, isProtection, isSoftReset, isDollar, isExtent}
 use Rattle.dispatch.specs.Heard.{insideMargins, plainIgnored, privateIgnored, ignoredSequence}
-use Rattle.dispatch.specs.WrapDue.{keepingFinals, privateKeeps, otherKeeps, sequenceKeeps}
+use Rattle.dispatch.specs.WrapDue.{keepingFinals, setsOrigin, privateKeeps, otherKeeps, sequenceKeeps}
 use Rattle.core.specs.Effects.{withCursor, withMargins, oneEdit, unedited}
 use Rattle.ground.proofs.TestLaws.{either, at-number, or-left, or-right, between-low, between-high}
 use Rattle.dispatch.proofs.WrapLaws.{reset-clears}
@@ -140,7 +141,7 @@ ansi-wrap on d v h = either WrapOf (eqb v 4) (λ e. h) (λ _. either WrapOf (eqb
 -- a private mode keeps wrap due held, unless autowrap is reset
 dec-wrap : (on : Bool) (d : Core) (v : ℕ) → (eqb v 7 ≡ true → on ≡ true) → WrapOf d → WrapOf (decMode on d v)
 dec-wrap on d v n h =
-    either WrapOf (eqb v 6) (λ e. no-wrap 1 (d .modes .autowrap))
+    either WrapOf (eqb v 6) (λ e. either WrapOf (isLine d) (λ _. h) (λ _. no-wrap 1 (d .modes .autowrap)))
     (λ _. either WrapOf (eqb v 7) (λ e. record { column = h .column; mode = λ _. n e })
     (λ _. either WrapOf (eqb v 25) (λ e. h) (λ _. h)))
 
@@ -173,10 +174,10 @@ module _ (c : Core) (p : Parts c) (h : WrapOf c) where
   -- what is not ignored outside T to B is inside, and margins that are not ignored are taken
   module _ (q : Params) (last : ℕ) (n : plainIgnored c q last ≡ false) where
     inserts-inside : eqb last 0x4C ≡ true → insideMargins c ≡ true
-    inserts-inside e = not-false _ (rw (eqb-true last 0x4C e) at n)
+    inserts-inside e = not-false (insideMargins c) (or-right (isLine c) (not (insideMargins c)) (rw (eqb-true last 0x4C e) at n))
 
     deletes-inside : eqb last 0x4D ≡ true → insideMargins c ≡ true
-    deletes-inside e = not-false _ (rw (eqb-true last 0x4D e) at n)
+    deletes-inside e = not-false (insideMargins c) (or-right (isLine c) (not (insideMargins c)) (rw (eqb-true last 0x4D e) at n))
 
     takes-margins : eqb last 0x72 ≡ true → marginsTaken c q ≡ true
     takes-margins e = not-false _ (rw (eqb-true last 0x72 e) at n)
@@ -186,10 +187,10 @@ module _ (c : Core) (p : Parts c) (h : WrapOf c) where
         search (good-either, moving, good-ansi, good-margins, takes-margins, good-kept, fitting, inserts-inside, deletes-inside, tt) depth 24 fits 6000
 
   -- here the policy has to clear wrap due where autowrap is reset
-  good-private : (q : Params) (last : ℕ) → Good (c .rows) (not (privateKeeps q last)) (privateSequence c q last)
+  good-private : (q : Params) (last : ℕ) → Good (c .rows) (not (privateKeeps c q last)) (privateSequence c q last)
   good-private q last =
-      let G : ℕ → Type 0 = λ n. Good (c .rows) (not (privateKeeps q n)) (privateSequence c q n) in
-      let six = member 6 (paramList q) in
+      let G : ℕ → Type 0 = λ n. Good (c .rows) (not (privateKeeps c q n)) (privateSequence c q n) in
+      let six = setsOrigin c q in
       let seven = member 7 (paramList q) in
       at-number G last 0x4A (good-kept c _ refl p (λ _. h) (page-range c p (param q 0)))
       (λ n1. at-number G last 0x4B (good-kept c _ refl p (λ _. h) (row-range c p (param q 0)))
@@ -202,7 +203,7 @@ module _ (c : Core) (p : Parts c) (h : WrapOf c) where
 
   families : (q : Params) (last : ℕ) (i j keeps k l x e : Bool)
       → cond i (plainIgnored c q last) (j && privateIgnored q last) ≡ false → (l ≡ true → not keeps ≡ true)
-      → Good (c .rows) (not (cond i (member last keepingFinals) (cond j (privateKeeps q last) keeps)))
+      → Good (c .rows) (not (cond i (member last keepingFinals) (cond j (privateKeeps c q last) keeps)))
       (cond i (plainSequence c q last) (cond j (privateSequence c q last) (cond k (selectProtection c q) (cond l (unedited (softReset c))
       (cond x (oneEdit c (rectangleEdit c q last)) (cond e (selectExtent c q) (unedited c)))))))
   families q last true j keeps k l x e n f = good-plain q last n _
@@ -214,9 +215,9 @@ module _ (c : Core) (p : Parts c) (h : WrapOf c) where
   families q last false false keeps false false false false n f = good-unedited c _ p (λ _. h)
 
   pub good-sequenced : (q : Params) (mark first second last : ℕ) → ignoredSequence c q mark first second last ≡ false
-      → Good (c .rows) (not (sequenceKeeps q mark first second last)) (sequenced c q mark first second last)
+      → Good (c .rows) (not (sequenceKeeps c q mark first second last)) (sequenced c q mark first second last)
   unfolding sequenced
   good-sequenced q mark first second last n =
       families q last (isPlain mark first second) (isPrivate mark first second) (otherKeeps mark first second last)
-      (isProtection mark first second last) (isSoftReset mark first second last) (isRectangle mark first second) (isExtent mark first second last) n
+      (isProtection mark first second last) (isSoftReset mark first second last) (isDollar mark first second) (isExtent mark first second last) n
       (reset-clears mark first second last)

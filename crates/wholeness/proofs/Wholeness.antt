@@ -10,8 +10,10 @@ use Rattle.core.specs.declared.Core.{Core}
 use Rattle.ground.specs.Tests.{between, all}
 use Rattle.device.specs.Cursor.{place}
 use Rattle.core.specs.declared.Margins.{Margins}
+use Rattle.core.specs.declared.StatusLine.{StatusLine}
+use Rattle.core.specs.declared.Displays.{Displays}
 use Rattle.core.specs.Bounds.{Rows, OnPage, Scrolls}
-use Rattle.core.specs.Whole.{sized, coreTests, wholeCore, WrapHeld, OriginHeld, SavedHeld, Whole}
+use Rattle.core.specs.Whole.{sized, coreTests, wholeCore, lineTests, wholeDisplays, WrapHeld, OriginHeld, SavedHeld, Whole, WholeLine, WholeDisplays}
 use Rattle.core.specs.Fresh.{freshCore}
 use Rattle.parser.specs.WholeParser.{parserTests, WholeParser}
 use Rattle.ground.proofs.TestLaws.{and-left, and-right, and-both, or-cases, all-at, implied, implying, between-low, between-high, in-between}
@@ -112,6 +114,59 @@ tested c e w =
       implying (s .wrap) (eqb (s .column) 80) (λ h. eq-eqb (s .column) 80 (p .saved .wrap h)),
     )
     (parser-tested (c .parser) (p .parser))
+
+-- ---- the line
+
+module _ (l : StatusLine) (on : Bool) where
+  line-facts : all (lineTests l on) ≡ true → WholeLine l on
+  line-facts e =
+      let t = all-at (lineTests l on) e in
+      let due = implied (l .wrap) (eqb (l .column) 80 && on) (t 1) in
+      let s = l .saved in
+      record {
+        low = between-low 1 (l .column) 80 (t 0);
+        high = between-high 1 (l .column) 80 (t 0);
+        wrap = record {
+          column = λ h. eqb-true (l .column) 80 (and-left (eqb (l .column) 80) on (due h));
+          mode = λ h. and-right (eqb (l .column) 80) on (due h);
+        };
+        saved-low = between-low 1 (s .column) 80 (t 2);
+        saved-high = between-high 1 (s .column) 80 (t 2);
+        saved-wrap = λ h. eqb-true (s .column) 80 (implied (s .wrap) (eqb (s .column) 80) (t 3) h);
+        typed = implied (l .active) (l .present) (t 4);
+      }
+
+  line-tested : WholeLine l on → all (lineTests l on) ≡ true
+  line-tested w =
+      let s = l .saved in
+      rw (
+        in-between 1 (l .column) 80 (w .low) (w .high),
+        implying (l .wrap) (eqb (l .column) 80 && on)
+            (λ h. and-both (eqb (l .column) 80) on (eq-eqb (l .column) 80 (w .wrap .column h)) (w .wrap .mode h)),
+        in-between 1 (s .column) 80 (w .saved-low) (w .saved-high),
+        implying (s .wrap) (eqb (s .column) 80) (λ h. eq-eqb (s .column) 80 (w .saved-wrap h)),
+        implying (l .active) (l .present) (w .typed),
+      )
+
+module _ (k : Displays) (e : wholeDisplays k ≡ true) where
+  pub displays-core : wholeCore (k .core) ≡ true
+  unfolding wholeDisplays
+  displays-core = and-left (wholeCore (k .core)) (all (lineTests (k .line) (k .core .modes .autowrap))) e
+
+  pub displays-facts : WholeDisplays k
+  unfolding wholeDisplays
+  displays-facts =
+      let on = k .core .modes .autowrap in
+      record {
+        core = facts (k .core) displays-core;
+        line = line-facts (k .line) on (and-right (wholeCore (k .core)) (all (lineTests (k .line) on)) e);
+      }
+
+pub displays-tested : (k : Displays) → sized (k .core .rows) ≡ true → WholeDisplays k → wholeDisplays k ≡ true
+unfolding wholeDisplays
+displays-tested k e w =
+    and-both (wholeCore (k .core)) (all (lineTests (k .line) (k .core .modes .autowrap)))
+    (tested (k .core) e (w .core)) (line-tested (k .line) (k .core .modes .autowrap) (w .line))
 
 -- ---- the fresh core, of any number of rows
 

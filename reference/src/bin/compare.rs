@@ -50,12 +50,12 @@ fn script_for(seed: &str, bytes: &str) -> Option<Script> {
 }
 
 /// The letters of the calls, whose output has the answer after the letter.
-const CALLS: [u8; 4] = *b"SFAR";
+const CALLS: [u8; 5] = *b"SFARO";
 
 fn write(seed: &str, script: &Script, directory: &Path) -> ExitCode {
     let mut machine = Machine::new();
     let mut output = Vec::new();
-    let mut counts = [[0usize; 5]; 4];
+    let mut counts = [[0usize; 5]; 5];
     for command in commands(&script.bytes) {
         let place = output.len();
         machine.carry_out(command, &mut output);
@@ -84,7 +84,7 @@ fn write(seed: &str, script: &Script, directory: &Path) -> ExitCode {
         }
         println!();
     };
-    for (call, name) in ["starting", "feeding", "asking", "reading"]
+    for (call, name) in ["starting", "feeding", "asking", "reading", "a row"]
         .iter()
         .enumerate()
     {
@@ -160,12 +160,13 @@ fn check(script: &Script, file: &Path) -> ExitCode {
     ExitCode::SUCCESS
 }
 
-/// The first word of a page or line of a text that differs.
+/// The first word of a page or line, or the first line of a text, that differs.
 fn first_difference(command: &Command, expected: &[u8], found: &[u8]) -> Option<String> {
     match command.letter {
-        b'P' => {
+        letter @ (b'P' | b'D' | b'O') => {
+            let head = if letter == b'O' { 3 } else { 1 };
             let words = |bytes: &[u8]| -> Vec<u16> {
-                let bytes = bytes.get(1..).unwrap_or_default();
+                let bytes = bytes.get(head..).unwrap_or_default();
                 let pairs = bytes.chunks_exact(2);
                 pairs.map(|p| u16::from_le_bytes([p[0], p[1]])).collect()
             };

@@ -22,7 +22,7 @@ fn joined(numbers: &[&str], colons: &[usize]) -> String {
 
 /// Origin with margins, insert, wrap due, a shift, protection with a saved
 /// cursor, 8-bit replies, and, without origin, margins below the cursor, by the
-/// bits of the number; a tab at the cursor.
+/// bits of the number; with insert there is a status line; a tab at the cursor.
 fn begin_with(s: &mut Script, rows: u16, situation: usize) {
     begin_in(s, rows, situation % 32);
     match situation & 32 {
@@ -32,6 +32,9 @@ fn begin_with(s: &mut Script, rows: u16, situation: usize) {
     if situation & 64 != 0 && situation & 1 == 0 {
         s.field(TOP, 9);
         s.field(BOTTOM, 12);
+    }
+    if situation & 2 != 0 {
+        s.field(LINE_EXISTS, 1);
     }
     s.view();
     s.ask();
@@ -300,7 +303,7 @@ fn in_situations(s: &mut Script) {
 
 /// Mark, parameters, intermediate, final: every control function of the scope,
 /// and some that are none.
-const CONTROL_FUNCTIONS: [(&str, &str, &str, &str); 54] = [
+const CONTROL_FUNCTIONS: [(&str, &str, &str, &str); 56] = [
     ("", "2", "", "A"),
     ("", "2", "", "B"),
     ("", "3", "", "C"),
@@ -351,6 +354,8 @@ const CONTROL_FUNCTIONS: [(&str, &str, &str, &str); 54] = [
     ("", "6;39;8;79;1;7", "$", "r"),
     ("", "6;39;8;79;1;7", "$", "t"),
     ("", "2", "*", "x"),
+    ("", "1", "$", "~"),
+    ("", "1", "$", "}"),
     // Not listed.
     ("?", "7", "", "m"),
     (">", "4", "", "m"),

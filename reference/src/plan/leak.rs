@@ -1,14 +1,14 @@
 //! The page must not leak to the modem: pairs of runs with the same feedings and
-//! the same room, over other pages and other changed rows, and with other calls
-//! between. What a feeding answers, reads and sends must be the same in both
-//! runs, and so must all fields after it.
+//! the same room, over other pages and lines and with other changed rows and
+//! another flag of the line, and with other calls between. What a feeding answers,
+//! reads and sends must be the same in both runs, and so must all fields after it.
 
 use super::*;
 use crate::state::State;
 
 /// Signs, controls and sequences that read, move or write cells, and those that
 /// save, restore and shift.
-pub const CELL_FUNCTIONS: [&[u8]; 55] = [
+pub const CELL_FUNCTIONS: [&[u8]; 60] = [
     // Selective erase.
     b"\x9B?J",
     b"\x9B?1J",
@@ -73,10 +73,16 @@ pub const CELL_FUNCTIONS: [&[u8]; 55] = [
     b"\x9B?6h",
     b"\x9B5;9r",
     b"\x00\x07\x7F\x9C",
+    // To the line and back, and the line's end.
+    b"\x9B1$~\x9B1$}q\x9B?2K",
+    b"\x9B2$~\x9B1$}\x9B80Cqr\x1B7",
+    b"\x9B1$}\x9B2@\x9B;;;;1;;2$v",
+    b"\x9B0$}\x9B?K",
+    b"\x9B0$~q",
 ];
 
 /// What is fed before.
-pub const CELL_SITUATIONS: [&[u8]; 12] = [
+pub const CELL_SITUATIONS: [&[u8]; 15] = [
     b"\x9B7;40H",
     // Wrap due; in the last row, with a shift.
     b"\x9B?7h\x9B7;80Hz",
@@ -96,12 +102,18 @@ pub const CELL_SITUATIONS: [&[u8]; 12] = [
     b"\x9B5;10r\x9B?6h\x9B3;5H\x9B7m\x1B7\x9B?6l\x9B8;12r\x9B7;40H",
     // 8-bit replies, newline, the cursor hidden, one tab, protection, rendition.
     b"\x1B G\x9B20h\x9B?25l\x9B3g\x9B7;40H\x88\x9B1\"q\x9B1;4m",
+    // On the line: with both wraps due; with margins, origin, insert and a shift.
+    // On the page while the line has wrap due and something saved.
+    b"\x9B?7h\x9B7;80Hz\x9B1$~\x9B1$}\x9B;80Hz",
+    b"\x9B5;10r\x9B?6h\x9B3;5H\x9B4h\x9B2$~\x9B1$}\x9B;79H\x8E",
+    b"\x9B?7h\x9B1$~\x9B1$}\x9B;80Hz\x1B7\x9B$}\x9B7;40H",
 ];
 
-/// Do they agree in all but the changed rows?
+/// Do they agree in all but the changed rows and the line's flag?
 pub fn agree(one: &State, other: &State) -> bool {
     let mut other = other.clone();
     other.changed = one.changed.clone();
+    other.line.changed = one.line.changed;
     *one == other
 }
 
@@ -150,8 +162,8 @@ impl Half {
         output
     }
 
-    /// The fresh state, with some changed rows; a blank page, or the one that is
-    /// there with new words.
+    /// The fresh state, with some changed rows and any flag of the line; a blank
+    /// page and line, or those that are there with new words.
     fn begin(&mut self, rows: u16, random: &mut Random) {
         let blank = self.blank;
         self.add(|s| {
@@ -167,16 +179,18 @@ impl Half {
             for row in any_rows(random, rows as usize) {
                 s.field(CHANGED_ROW, row as u16);
             }
+            s.field(LINE_CHANGED, random.below(2) as u16);
         });
         if !blank {
             self.new_words(random, 0);
         }
     }
 
-    /// Some anywhere, and all about the cursor; these with the flag, or without
-    /// it if that is 0.
+    /// Some anywhere, and all about the cursors of page and line; these with the
+    /// flag, or without it if that is 0.
     fn new_words(&mut self, random: &mut Random, flag: u16) {
         let cursor = self.machine.state().cursor;
+        let line_column = self.machine.state().line.cursor.column as u16;
         let rows = self.machine.state().rows as u16;
         self.add(|s| {
             for _ in 0..rows {
@@ -189,6 +203,10 @@ impl Half {
                     s.word_at(row, column, word | flag);
                 }
             }
+            for column in near(line_column) {
+                let word = random.next() as u16 & !PROTECTED;
+                s.line_word(column, word | flag);
+            }
         });
     }
 }
@@ -199,9 +217,12 @@ struct Pair {
     rows: u16,
     random: Random,
     cases: usize,
-    /// The cases that ended with other pages, and with other changed rows.
+    /// The cases that ended with other pages and lines, with other changed rows,
+    /// and with another flag of the line.
     other_pages: usize,
+    other_lines: usize,
     other_rows: usize,
+    other_flags: usize,
 }
 
 /// Each size with a blank page in the first half; then with random words in
@@ -216,6 +237,7 @@ impl Pair {
             let mut half = Half::new(blank);
             if !blank {
                 half.add(|s| (0..rows * 80).for_each(|n| s.word(n, random.next() as u16)));
+                half.add(|s| (1..=80).for_each(|n| s.line_word(n, random.next() as u16)));
             }
             half
         });
@@ -225,7 +247,9 @@ impl Pair {
             random,
             cases: 0,
             other_pages: 0,
+            other_lines: 0,
             other_rows: 0,
+            other_flags: 0,
         }
     }
 
@@ -234,23 +258,31 @@ impl Pair {
         one.machine.page() != other.machine.page()
     }
 
+    fn lines_differ(&self) -> bool {
+        let [one, other] = &self.halves;
+        one.machine.line() != other.machine.line()
+    }
+
     /// From the fresh state on.
     fn case(&mut self, run: impl FnOnce(&mut Pair)) {
         for half in &mut self.halves {
             half.begin(self.rows, &mut self.random);
         }
-        assert!(self.pages_differ());
+        assert!(self.pages_differ() && self.lines_differ());
         run(self);
         self.cases += 1;
         self.other_pages += self.pages_differ() as usize;
+        self.other_lines += self.lines_differ() as usize;
         let [one, other] = self.halves.each_ref().map(|half| half.machine.state());
         self.other_rows += (one.changed != other.changed) as usize;
+        self.other_flags += (one.line.changed != other.line.changed) as usize;
         let whole_page = self.cases % 8 == 0;
         for half in &mut self.halves {
             half.add(|s| {
                 s.ask();
                 if whole_page {
                     s.page();
+                    s.line();
                 }
             });
         }
@@ -286,7 +318,8 @@ impl Pair {
         }
     }
 
-    /// Now and then an asking, a reading or a refused feeding in one half only.
+    /// Now and then an asking, a reading, a row or a refused feeding in one half
+    /// only.
     fn calls_between(&mut self) {
         if self.random.percent(60) {
             return;
@@ -296,10 +329,16 @@ impl Pair {
         let bottom = half.machine.state().bottom as u16;
         let row = self.random.between(0, rows as usize + 1) as u16;
         let column = self.random.pick(&[0, 1, 2, 40, 79, 80, 81]);
-        let call = self.random.below(8);
+        let call = self.random.below(10);
         half.add(|s| match call {
             0..=2 => s.ask(),
             3..=5 => s.read(row, column),
+            8 => s.row(row),
+            9 => {
+                s.lend_line(self.random.pick(&[0, 79, 81, 128]));
+                s.feed(b"q\x9B6n", ROOM);
+                s.lend_line(80);
+            }
             6 => {
                 s.lend(self.random.pick(&wrong_for(rows)));
                 s.feed(b"q\x9B6n", ROOM);
@@ -327,10 +366,15 @@ impl Pair {
     fn script(mut self) -> Script {
         assert!(self.pages_differ());
         assert!(self.other_pages * 10 > self.cases * 8);
+        assert!(self.other_lines * 10 > self.cases * 8);
         assert!(self.other_rows * 10 > self.cases * 6);
+        assert!(self.other_flags * 10 > self.cases * 2);
         let mut script = Script::new();
         for half in &mut self.halves {
-            half.add(|s| s.page());
+            half.add(|s| {
+                s.page();
+                s.line();
+            });
             script.append(&half.script);
         }
         script
@@ -422,8 +466,8 @@ fn streams_twice(pair: &mut Pair, number: usize) {
     }
 }
 
-/// Pages of wrong lengths, another in each half; then states that are not whole,
-/// over pages of any length.
+/// Pages or lines of wrong lengths, another in each half; then states that are
+/// not whole, over pages of any length.
 fn refusals_twice(pair: &mut Pair) {
     let wrong = wrong_for(pair.rows);
     for n in 0..wrong.len() {
@@ -431,6 +475,20 @@ fn refusals_twice(pair: &mut Pair) {
             let lengths = [wrong[n], wrong[(n + 7) % wrong.len()]];
             refused_twice(pair, lengths, |_| {}, 2);
             pair.feed_all(b"q\x9B6n", &[]);
+        });
+    }
+    for n in 0..4 {
+        let right = pair.rows * 80;
+        let lines = [0, 79, 81, 128];
+        pair.case(|pair| {
+            for (half, turn) in pair.halves.iter_mut().zip([n, n + 1]) {
+                half.add(|s| s.lend_line(lines[turn % 4]));
+            }
+            refused_twice(pair, [right, right], |_| {}, 2);
+            for half in &mut pair.halves {
+                half.add(|s| s.lend_line(80));
+            }
+            pair.feed_all(b"q\x9B6n\x9B1$~\x9B1$}q\x9B6n", &[]);
         });
     }
     let broken = [
@@ -443,6 +501,11 @@ fn refusals_twice(pair: &mut Pair) {
         (SAVED_ROW, 0),
         (SAVED_WRAP_DUE, 1),
         (CHANGED_ROW, 64),
+        (LINE_ACTIVE, 1),
+        (LINE_COLUMN, 0),
+        (LINE_WRAP_DUE, 1),
+        (LINE_SAVED_COLUMN, 81),
+        (LINE_SAVED_WRAP_DUE, 1),
     ];
     for (n, (field, value)) in broken.into_iter().enumerate() {
         let right = pair.rows * 80;
@@ -475,7 +538,7 @@ mod tests {
     #[test]
     fn this_part_is_not_too_long() {
         let part = two_pages();
-        assert!(part.input < 150_000, "{}", part.input);
+        assert!(part.input < 200_000, "{}", part.input);
         assert!(part.commands < 400_000, "{}", part.commands);
     }
 

@@ -1,4 +1,4 @@
-//! A page, its state and all replies, for the tests.
+//! A page, its status line, their state and all replies, for the tests.
 #![allow(dead_code)]
 
 use reference::grammar::Random;
@@ -8,6 +8,7 @@ use reference::*;
 #[derive(Clone)]
 pub struct Console {
     pub page: Vec<u16>,
+    pub status_line: Vec<u16>,
     pub state: State,
     pub replies: Vec<u8>,
 }
@@ -15,10 +16,12 @@ pub struct Console {
 impl Console {
     pub fn of(rows: usize) -> Console {
         let mut page = vec![0xFFFF; 80 * rows];
-        let (answer, state) = start(rows, &mut page);
+        let mut status_line = vec![0xFFFF; 80];
+        let (answer, state) = start(rows, &mut page, &mut status_line);
         assert_eq!(answer, 0);
         Console {
             page,
+            status_line,
             state,
             replies: Vec::new(),
         }
@@ -41,7 +44,11 @@ impl Console {
 
     pub fn more(&mut self, bytes: &[u8]) {
         let mut reply = vec![0; 11 * bytes.len()];
-        let (answer, read, replied, state) = feed(&self.state, &mut self.page, bytes, &mut reply);
+        let Console {
+            page, status_line, ..
+        } = self;
+        let (answer, read, replied, state) =
+            feed(&self.state, page, status_line, bytes, &mut reply);
         assert_eq!((answer, read), (0, bytes.len()));
         assert!(is_whole(&state));
         self.replies.extend_from_slice(&reply[..replied]);
@@ -52,7 +59,11 @@ impl Console {
     /// how many bytes were read, and what was sent.
     pub fn feed_with(&mut self, bytes: &[u8], room: usize, held: u8) -> (u8, usize, Vec<u8>) {
         let mut reply = vec![held; room];
-        let (answer, read, replied, state) = feed(&self.state, &mut self.page, bytes, &mut reply);
+        let Console {
+            page, status_line, ..
+        } = self;
+        let (answer, read, replied, state) =
+            feed(&self.state, page, status_line, bytes, &mut reply);
         assert!(reply[replied..].iter().all(|&byte| byte == held));
         reply.truncate(replied);
         self.replies.extend_from_slice(&reply);
@@ -60,13 +71,20 @@ impl Console {
         (answer, read, reply)
     }
 
-    /// The changed rows, which are then forgotten.
-    pub fn ask(&mut self) -> Vec<usize> {
-        let (answer, rows, count, state) = ask(&self.state);
+    /// The changed rows, and whether the line changed, which is then forgotten.
+    pub fn ask_both(&mut self) -> (Vec<usize>, bool) {
+        let (answer, rows, count, line_changed, state) = ask(&self.state);
         assert_eq!(answer, 0);
         assert_eq!(count, rows.len());
-        assert!(state.changed.is_empty());
+        assert!(state.changed.is_empty() && !state.line.changed);
         self.state = state;
+        (rows, line_changed)
+    }
+
+    /// The changed rows, of a page whose line did not change.
+    pub fn ask(&mut self) -> Vec<usize> {
+        let (rows, line_changed) = self.ask_both();
+        assert!(!line_changed);
         rows
     }
 
@@ -82,12 +100,19 @@ impl Console {
         (cursor.row, cursor.column, cursor.wrap_due)
     }
 
+    /// Column and wrap due of the line's cursor.
+    pub fn line_at(&self) -> (usize, bool) {
+        let cursor = self.state.line.cursor;
+        assert_eq!(cursor.row, 1);
+        (cursor.column, cursor.wrap_due)
+    }
+
     pub fn line(&self, row: usize) -> String {
-        let words = &self.page[80 * (row - 1)..80 * row];
-        String::from_utf8(text(words))
-            .unwrap()
-            .trim_end_matches('\n')
-            .to_string()
+        text_of(&self.page[80 * (row - 1)..80 * row])
+    }
+
+    pub fn status_text(&self) -> String {
+        text_of(&self.status_line)
     }
 
     /// The lines of rows first to last.
@@ -104,6 +129,12 @@ impl Console {
                     .all(|&w| w == 0x20)
             })
     }
+}
+
+/// The text of one row.
+fn text_of(words: &[u16]) -> String {
+    let lines = String::from_utf8(text(words)).unwrap();
+    lines.trim_end_matches('\n').to_string()
 }
 
 /// Random words: every code, set and flag, and the unused bits too.

@@ -16,7 +16,7 @@ returns-5 c =
     let plain = private .before .before in
     rw (← plain .before .is-plain .ensures, plain .if1 .left, ← private .before .is-private .ensures, private .if2 .left)
     (rw (← protection .before .is-protection .ensures, protection .if3 .left, ← reset .before .is-soft-reset .ensures, reset .if4 .left)
-    (rw (← rectangle .before .is-rectangle .ensures, rectangle .if5 .taken, ← c .before .rectangle-edit .ensures) (c .one-edit .ensures)))
+    (rw (← rectangle .before .is-dollar .ensures, rectangle .if5 .taken, ← c .before .rectangle-edit .ensures) (c .one-edit .ensures)))
 
 pub sequence-spec : {M : Type 1} → statement M
 unfolding sequenced

@@ -11,7 +11,7 @@ use Rattle.dispatch.proofs.wrap.clears_wrap.Tie as tie
 
 -- of what is not ignored, it is listed and no keeper
 listed : (s : tie.Start)
-    → (isListed (s .args .action) && not (keepsWrap (s .args .core .parser .params) (s .args .action))) ≡ clearsWrap (s .args .core) (s .args .action)
+    → (isListed (s .args .action) && not (keepsWrap (s .args .core) (s .args .action))) ≡ clearsWrap (s .args .core) (s .args .action)
 listed s = clears-listed (s .args .core) (s .args .action) (s .pre)
 
 pub clears-wrap-spec : {M : Type 1} → statement M

@@ -5,17 +5,19 @@ use native.Mathlib.Omega.{arith}
 use lib.ListN.{length}
 use borrow.Author.Needs.{needs}
 use Rattle.device.specs.ReplyBytes.{replyBytes}
-use Rattle.dispatch.specs.Replies.{replyTo}
-use Rattle.dispatch.specs.Decide.{sends}
+use Rattle.dispatch.specs.Displays.{sendsOf}
+use Rattle.feeding.proofs.FeedLoop.{active-sends}
 use Rattle.feeding.proofs.bytes.send_reply.Statement.{statement}
 use Rattle.feeding.proofs.bytes.send_reply.Tie as tie
 
--- the reply to what was decoded
-replies : (c : tie.After-reply-to) → let a = c .before .before .args in replyBytes (a .core .modes .eightbit) (c .reply-to .result) ≡ sends (a .core) (a .byte)
-unfolding sends
+-- the reply to what was decoded, of the display that is active
+replies : (c : tie.After-active-reply)
+    → let a = c .before .before .args in
+    replyBytes (a .core .modes .eightbit) (c .active-reply .result) ≡ sendsOf (record { core = a .core; line = a .line }) (a .byte)
 replies c =
     let start = c .before .before in
-    ap (replyBytes (start .args .core .modes .eightbit)) (c .reply-to .ensures ∙ ap (replyTo (start .args .core)) (start .pre .1))
+    ap (replyBytes (start .args .core .modes .eightbit)) (c .active-reply .ensures)
+    ∙ active-sends (record { core = start .args .core; line = start .args .line }) (start .args .byte) (start .args .action) (start .pre .1)
 
 returns : tie.Need-returns
 returns c =

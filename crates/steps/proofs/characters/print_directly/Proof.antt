@@ -1,6 +1,6 @@
 -- The loop keeps `Spanned`: the characters and the ends of lines so far were done, and the cursor is where they left it.
 use mathlib.Core.Path.{refl, sym, _∙_}
-use mathlib.Core.Bool.{not}
+use mathlib.Core.Bool.{false, not}
 use Prim.Native.Nat.{_-_}
 use native.Mathlib.Omega.{arith}
 use lib.ListN.{length}
@@ -9,8 +9,10 @@ use borrow.Author.Needs.{needs}
 use Rattle.ground.proofs.TestLaws.{and-left, and-right}
 use Rattle.device.specs.Cursor.{toColumn}
 use Rattle.core.specs.Effects.{withCursor}
-use Rattle.steps.specs.Spans.{Spanned, Direct, moved}
-use Rattle.steps.proofs.ByteLaws.{ready-paged}
+use Rattle.core.specs.StatusLine.{freshLine}
+use Rattle.wholeness.proofs.SoundDisplays.{fresh-line}
+use Rattle.steps.specs.Spans.{SpannedBeside, Direct}
+use Rattle.steps.proofs.ByteLaws.{ready-paged, ready-beside}
 use Rattle.steps.proofs.SpannedLaws.{spanned-none, spanned-moves, noted-none}
 use Rattle.steps.proofs.CharacterLaws.{return-moves}
 use Rattle.steps.proofs.characters.print_directly.Statement.{statement}
@@ -18,14 +20,17 @@ use Rattle.steps.proofs.characters.print_directly.Tie as tie
 
 abbrev Inv-loop : tie.InvT-loop
 Inv-loop core page₀ input from cursor₀ tracked₀ i₀ page cursor tracked i =
-    Spanned (record { core = core; tracked = tracked₀ }) page₀ input from i (moved core (record { cursor = cursor; tracked = tracked; next = i })) page
+    SpannedBeside false core tracked₀ page₀ input from i (withCursor core cursor) tracked page
 
 abbrev μ-loop : tie.MeasureT-loop
 μ-loop core page₀ input from cursor₀ tracked₀ i₀ page cursor tracked i = length input - i
 
 -- characters are just put at the loop's head
 direct : (l : tie.At-loop Inv-loop μ-loop) → Direct (withCursor (l .before .before .before .before .args .core) (l .loop .cursor)) (l .loop .page)
-direct l = record { direct = l .before .before .before .before .pre .2; paged = ready-paged _ _ (l .loop .inv .ready) }
+direct l = record {
+  direct = l .before .before .before .before .pre .2;
+  paged = ready-paged _ _ (l .loop .inv freshLine refl (fresh-line _) .ready);
+}
 
 -- a character
 
@@ -49,8 +54,8 @@ loop-again : tie.Need-loop-again Inv-loop μ-loop
 loop-again c =
     let put = c .before .before .before .before in
     let t = put .before .before .before .before .before .before in
-    spanned-moves (t .before .loop .inv) (t .loop-test .taken) _ refl (put .put-character .result .cursor) (put .put-character .result .changed)
-    (put .put-character .last .1 .1 .1 .0) (put .put-character .ensures) (c .note .result) (c .note .ensures)
+    λ n off w. spanned-moves (t .before .loop .inv n off w) (t .loop-test .taken) _ refl off (put .put-character .result .cursor)
+    (put .put-character .result .changed) (put .put-character .last .1 .1 .1 .0) (put .put-character .ensures) (c .note .result) (c .note .ensures)
 
 -- CR
 
@@ -61,7 +66,7 @@ loop-again-2 c =
     let t = yes .before .before .before .before .before in
     let l = t .before in
     rw (c .to-column .ensures, stop .left-stop .ensures)
-    (spanned-moves (l .loop .inv) (t .loop-test .taken) _ refl (toColumn (l .loop .cursor) 1) 0 (l .loop .page)
+    (λ n off w. spanned-moves (l .loop .inv n off w) (t .loop-test .taken) _ refl off (toColumn (l .loop .cursor) 1) 0 (l .loop .page)
     (return-moves _ _ _ (direct l) (yes .if2 .taken)) (l .loop .tracked) (noted-none (l .loop .tracked)))
 
 -- LF, VT, FF
@@ -81,17 +86,18 @@ loop-again-3 : tie.Need-loop-again-3 Inv-loop μ-loop
 loop-again-3 c =
     let feed = c .before .before .before .before in
     let t = feed .before .before .before .before .before .before .before .before .before in
-    spanned-moves (t .before .loop .inv) (t .loop-test .taken) _ refl (feed .line-feed .result .cursor) (feed .line-feed .result .changed)
-    (feed .line-feed .last .1 .1 .1 .0) (feed .line-feed .ensures) (c .note2 .result) (c .note2 .ensures)
+    λ n off w. spanned-moves (t .before .loop .inv n off w) (t .loop-test .taken) _ refl off (feed .line-feed .result .cursor)
+    (feed .line-feed .result .changed) (feed .line-feed .last .1 .1 .1 .0) (feed .line-feed .ensures) (c .note2 .result) (c .note2 .ensures)
 
 pub print-directly-spec : {M : Type 1} → statement M
 print-directly-spec =
     tie.close (tie.spec
     Inv-loop μ-loop
-    (λ c. spanned-none _ _ _ _ (c .before .before .before .pre .0) (c .before .before .before .pre .1))
+    (λ c n off w. spanned-none _ _ _ _ (ready-beside _ n _ _ (c .before .before .before .pre .0) w) (c .before .before .before .pre .1))
     (λ c. search needs) (λ c κs. search needs) put-character-requires (λ c κs. search needs) add-i (λ c. search needs) loop-again (λ c κs. search needs)
     (λ c κs. search needs) (λ c. search needs) (λ c. search needs) loop-again-2 (λ c κs. search needs) line-feed-requires (λ c κs. search needs) add-i-3
-    (λ c. search needs) loop-again-3 (λ c κs. search needs) (λ c. search needs)
+    (λ c. search needs) loop-again-3 (λ c κs. search needs)
+    (λ c. c .before .before .before .before .before .before .before .before .before .loop .inv freshLine refl (fresh-line _) .long)
     (λ c. rw (c .stopped .ensures) (c .before .before .before .before .before .before .before .before .before .loop .inv))
-    (λ c κs. search needs) (λ c. search needs)
+    (λ c κs. search needs) (λ c. c .before .before .loop .inv freshLine refl (fresh-line _) .long)
     (λ c. rw (c .stopped2 .ensures) (c .before .before .loop .inv)))

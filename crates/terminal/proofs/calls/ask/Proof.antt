@@ -17,7 +17,7 @@ returns-2 c =
     let i = c .before .before in
     let s = i .before .before .args .state in
     let e = sym (i .before .is-whole .ensures) ∙ not-false _ (i .if1 .left) in
-    rw (e, c .count-rows .ensures (s .core .rows) (state-facts s e .changed))
+    rw (e, c .count-rows .ensures (s .displays .core .rows) (state-facts s e .changed))
 
 pub ask-spec : {M : Type 1} → statement M
 ask-spec = tie.close (tie.spec (λ c κs. search needs) returns (λ c κs. search needs) returns-2)

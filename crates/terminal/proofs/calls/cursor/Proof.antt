@@ -13,7 +13,7 @@ returns c = rw (sym (c .before .is-whole .ensures) ∙ not-true _ (c .if1 .taken
 returns-2 : tie.Need-returns-2
 unfolding cursorRead
 returns-2 c =
-    let i = c .before .before .before in
+    let i = c .before .before in
     rw (sym (i .before .is-whole .ensures) ∙ not-false _ (i .if1 .left))
 
 pub cursor-spec : {M : Type 1} → statement M

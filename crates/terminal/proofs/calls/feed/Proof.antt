@@ -1,8 +1,9 @@
 -- Each return is the definition's case, by the tests that led there.
 use mathlib.Core.Path.{sym, _∙_}
-use borrow.Author.Tests.{ne-eqb, not-true, not-false}
+use borrow.Author.Tests.{not-true, not-false}
+use Rattle.steps.specs.Steps.{Buffers, buffers}
 use Rattle.terminal.specs.Feed.{fed}
-use Rattle.terminal.proofs.CallLaws.{state-facts, fed-bytes}
+use Rattle.terminal.proofs.CallLaws.{state-facts, wrong-sizes, right-sizes, sizes-fit, fed-bytes}
 use borrow.Author.Needs.{needs}
 use Rattle.terminal.proofs.calls.feed.Statement.{statement}
 use Rattle.terminal.proofs.calls.feed.Tie as tie
@@ -11,32 +12,46 @@ returns : tie.Need-returns
 unfolding fed
 returns c = rw (sym (c .before .is-whole .ensures) ∙ not-true _ (c .if1 .taken))
 
+-- what is lent
+abbrev lentTo : tie.Start → Buffers
+lentTo start = buffers (start .args .page .now) (start .args .line .now)
+
 returns-2 : tie.Need-returns-2
 unfolding fed
 returns-2 c =
-    let e1 = c .before .before in
-    rw (sym (e1 .before .is-whole .ensures) ∙ not-false _ (e1 .if1 .left), ne-eqb _ _ (c .if2 .taken))
+    let e1 = c .before in
+    let start = e1 .before .before .before .before .before .before in
+    rw (
+      sym (e1 .before .is-whole .ensures) ∙ not-false _ (e1 .if1 .left),
+      wrong-sizes (start .args .state .displays .core .rows) (lentTo start) (c .if2 .taken),
+    )
 
 feed-bytes-requires : tie.Need-feed-bytes-requires
 feed-bytes-requires c κs =
-    let e2 = c .before .before in
-    let w = e2 .before .before .before in
-    let a = w .before .before .before .before .args in
-    record { whole = state-facts (a .state) (sym (w .is-whole .ensures) ∙ not-false _ (e2 .before .before .if1 .left)); size = e2 .if2 .left }
+    let e2 = c .before .before .before in
+    let w = e2 .before .before in
+    let start = w .before .before .before .before .before in
+    let r = start .args .state .displays .core .rows in
+    let sizes = sizes-fit r (lentTo start) (right-sizes r (lentTo start) (e2 .if2 .left)) in
+    (record { whole = state-facts (start .args .state) (sym (w .is-whole .ensures) ∙ not-false _ (e2 .before .if1 .left)); size = sizes .0 }, sizes .1)
 
 returns-3 : tie.Need-returns-3
 returns-3 c =
-    let r = c .before .before .before .before .before .before in
-    let e2 = r .before .before .before in
-    let w = e2 .before .before .before in
-    let a = w .before .before .before .before .args in
+    let r = c .before .before .before .before .before .before .before .before in
+    let e2 = r .before .before .before .before in
+    let w = e2 .before .before in
+    let start = w .before .before .before .before .before in
     rw (c .fitting .ensures)
-    (fed-bytes (a .state) (a .page .now) (a .input .now) (a .reply .now)
-    (record { result = r .feed-bytes .result; page = r .feed-bytes .last .1 .0; reply = r .feed-bytes .last .1 .1 .1 .0 }) (r .feed-bytes .ensures)
-    (sym (w .is-whole .ensures) ∙ not-false _ (e2 .before .before .if1 .left)) (e2 .if2 .left))
+    (fed-bytes (start .args .state) (lentTo start) (start .args .input .now) (start .args .reply .now)
+    (record {
+      result = r .feed-bytes .result;
+      buffers = buffers (r .feed-bytes .last .1 .0) (r .feed-bytes .last .1 .1 .0);
+      reply = r .feed-bytes .last .1 .1 .1 .1 .0;
+    }) (r .feed-bytes .ensures)
+    (sym (w .is-whole .ensures) ∙ not-false _ (e2 .before .if1 .left)) (right-sizes (start .args .state .displays .core .rows) (lentTo start) (e2 .if2 .left)))
 
 pub feed-spec : {M : Type 1} → statement M
 feed-spec =
     tie.close
     (tie.spec (λ c κs. search needs) returns (λ c. search needs) (λ c. search needs) returns-2 feed-bytes-requires (λ c κs. search needs)
-    (λ c. search needs) (λ c. search needs) returns-3)
+    (λ c. search needs) (λ c. search needs) (λ c. search needs) returns-3)
