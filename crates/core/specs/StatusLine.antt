@@ -2,9 +2,6 @@
 use mathlib.Core.Bool.{Bool, false, _&&_}
 use Prim.Native.Nat.{ℕ}
 use lib.Dec.{eqb}
-use Rattle.page.specs.declared.Edit.{Edit}
-use Rattle.page.specs.declared.Edit.the-variants.{Keep, Put, InsertCells, DeleteCells, ScrollUp, ScrollDown}
-use Rattle.page.specs.declared.Edit.the-variants.{FillRange, ChangeRange, FillRectangle, ChangeRectangle, CopyRectangle}
 use Rattle.device.specs.declared.cursor.Cursor.{Cursor}
 use Rattle.core.specs.declared.Saved.{Saved}
 use Rattle.core.specs.declared.Core.{Core}
@@ -61,17 +58,3 @@ lineBeside l autowrap = record { present = l .present; active = l .active; colum
 -- no line, its cursor in column 1
 abbrev pub freshLine : StatusLine
 freshLine = record { present = false; active = false; column = 1; wrap = false; saved = savedLine freshSaved }
-
--- one row never scrolls
-abbrev pub still : Edit → Edit
-still Keep = Keep
-still (Put row column word) = Put row column word
-still (InsertCells row column end count word) = InsertCells row column end count word
-still (DeleteCells row column end count) = DeleteCells row column end count
-still (ScrollUp top end left right count) = Keep
-still (ScrollDown top end left right count) = Keep
-still (FillRange from to word) = FillRange from to word
-still (ChangeRange from to change) = ChangeRange from to change
-still (FillRectangle top end left right word) = FillRectangle top end left right word
-still (ChangeRectangle top end left right change) = ChangeRectangle top end left right change
-still (CopyRectangle a b c d i j) = CopyRectangle a b c d i j

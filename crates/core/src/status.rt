@@ -7,7 +7,6 @@ use crate::Saved;
 use crate::StatusLine;
 use crate::fresh::fresh_saved;
 use device::cursor::Cursor;
-use page::Edit;
 ghost use mathlib.Core.Path.{_≡_};
 ghost use Rattle.core.specs.Modes.{withOrigin};
 ghost use Rattle.core.specs.StatusLine as status;
@@ -162,28 +161,5 @@ pub fn fresh_line() -> StatusLine
         column: 1,
         wrap: false,
         saved: saved_line(fresh_saved()),
-    }
-}
-
-// One row never scrolls.
-pub fn still(edit: Edit) -> Edit
-    ensures { λ r. ⌜ r ≡ status.still edit ⌝ }
-{
-    match edit {
-        Edit::ScrollUp {
-            top: _,
-            end: _,
-            left: _,
-            right: _,
-            count: _,
-        } => Edit::Keep,
-        Edit::ScrollDown {
-            top: _,
-            end: _,
-            left: _,
-            right: _,
-            count: _,
-        } => Edit::Keep,
-        _ => edit,
     }
 }

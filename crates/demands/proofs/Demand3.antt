@@ -31,7 +31,6 @@ use Rattle.steps.specs.declared.Tracked.{Tracked}
 use Rattle.terminal.specs.Answers.{number}
 use Rattle.steps.specs.Steps.{Buffers, buffers, Screen, Marked, edited, editedBy, acted, stepped, ran, sent, readable}
 use Rattle.terminal.specs.Start.{fresh, blankBuffers, started}
-use Rattle.terminal.specs.Feed.{fed}
 use Rattle.terminal.specs.Ask.{askDone}
 use Rattle.steps.proofs.StepLaws.{edited-page, edited-changed, sent-fits}
 use Rattle.terminal.proofs.CallLaws.{Taken, fed-taken, fed-left, fed-processed, fitting-number, asked-whole, asked-done}

@@ -8,12 +8,10 @@ use Rattle.cells.specs.Cells.{blank, Printable}
 use Rattle.cells.specs.Rows.{Every}
 use Rattle.page.specs.Edits.{applied, entering}
 use Rattle.page.specs.declared.Edit.{Edit}
-use Rattle.page.specs.declared.Edit.the-variants.{Keep, Put, InsertCells, DeleteCells, ScrollUp, ScrollDown}
-use Rattle.page.specs.declared.Edit.the-variants.{FillRange, ChangeRange, FillRectangle, ChangeRectangle, CopyRectangle}
 use Rattle.cells.proofs.CellLaws.{blank-printable, changed-printable}
 use Rattle.page.proofs.EnteringLaws.{every-applied}
 use Rattle.cells.proofs.EveryLaws.{every-weaker, every-take, every-replicate}
-use Rattle.core.specs.StatusLine.{lineView, still}
+use Rattle.core.specs.StatusLine.{lineView}
 use Rattle.core.specs.declared.Displays.{Displays}
 use Rattle.parser.specs.Parser.{decode}
 use Rattle.dispatch.specs.Decide.{decided}
@@ -41,19 +39,6 @@ record BringsBoth (x : Carried) : Type 0 where
   line-first : Enters (x .line .first)
   line-second : Enters (x .line .second)
 
-still-enters : (e : Edit) → Enters e → Enters (still e)
-still-enters Keep h = h
-still-enters (Put row column word) h = h
-still-enters (InsertCells row column end count word) h = h
-still-enters (DeleteCells row column end count) h = h
-still-enters (ScrollUp top end left right count) h = h
-still-enters (ScrollDown top end left right count) h = h
-still-enters (FillRange from to word) h = h
-still-enters (ChangeRange from to change) h = h
-still-enters (FillRectangle top end left right word) h = h
-still-enters (ChangeRectangle top end left right change) h = h
-still-enters (CopyRectangle a b c d i j) h = h
-
 -- a byte on the line is one on a page of one row
 brings-both : (k : Displays) (b : ℕ) → b < 256 → BringsBoth (carriedOut k b)
 unfolding carriedOut carried decided lineView
@@ -66,8 +51,8 @@ brings-both k b h =
     (λ _. record {
       page-first = blank-printable;
       page-second = blank-printable;
-      line-first = still-enters (on .first) (l .first);
-      line-second = still-enters (on .second) (l .second);
+      line-first = l .first;
+      line-second = l .second;
     })
     (λ _. record {
       page-first = p .first;

@@ -8,14 +8,13 @@ use types.Run.{OneOf, miss}
 use Rattle.parser.specs.declared.parser.Action.{Action}
 use Rattle.parser.specs.declared.parser.Action.the-variants.{Nothing, Character, Substitute, Control, C1Control, EscapeSequence, ControlSequence}
 use Rattle.parser.proofs.parser.Action as action
-use Rattle.parser.specs.declared.params.Params.{Params}
 use Rattle.core.specs.declared.Core.{Core}
 use Rattle.core.specs.declared.StatusLine.{StatusLine}
 use Rattle.device.specs.declared.sending.Reply.the-variants.{Silent}
 use Rattle.dispatch.specs.Replies.{reply}
 use Rattle.dispatch.specs.Heard.{isIgnored}
 use Rattle.dispatch.specs.WrapDue.{clearsWrap}
-use Rattle.dispatch.specs.Displays.{resetsAll, leavesLine, lineTold}
+use Rattle.dispatch.specs.Displays.{resetsAll, leavesLine, tellsLine, lineTold}
 
 -- the actions that draw no reply
 abbrev pub silentActions : List ℕ
@@ -74,20 +73,21 @@ no-reset (ControlSequence mark first second last) h = refl
 abbrev pub singleActions : List ℕ
 singleActions = 0 ∷ 1 ∷ 2 ∷ 3 ∷ 4 ∷ []
 
-pub stays : (a : Action) → OneOf singleActions (tagOf action.the-type a) → false ≡ leavesLine a
-stays Nothing h = refl
-stays (Character b) h = refl
-stays Substitute h = refl
-stays (Control b) h = refl
-stays (C1Control b) h = refl
-stays (EscapeSequence first second last) h = absurd (miss singleActions 5 tt h)
-stays (ControlSequence mark first second last) h = absurd (miss singleActions 6 tt h)
+on-singles : (P : Action → Type 0) → P Nothing → ((b : ℕ) → P (Character b)) → P Substitute → ((b : ℕ) → P (Control b)) → ((b : ℕ) → P (C1Control b))
+    → (a : Action) → OneOf singleActions (tagOf action.the-type a) → P a
+on-singles P n ch s co c1 Nothing h = n
+on-singles P n ch s co c1 (Character b) h = ch b
+on-singles P n ch s co c1 Substitute h = s
+on-singles P n ch s co c1 (Control b) h = co b
+on-singles P n ch s co c1 (C1Control b) h = c1 b
+on-singles P n ch s co c1 (EscapeSequence first second last) h = absurd (miss singleActions 5 tt h)
+on-singles P n ch s co c1 (ControlSequence mark first second last) h = absurd (miss singleActions 6 tt h)
 
-pub tells-nothing : (a : Action) (q : Params) (l : StatusLine) → OneOf singleActions (tagOf action.the-type a) → l ≡ lineTold a q l
-tells-nothing Nothing q l h = refl
-tells-nothing (Character b) q l h = refl
-tells-nothing Substitute q l h = refl
-tells-nothing (Control b) q l h = refl
-tells-nothing (C1Control b) q l h = refl
-tells-nothing (EscapeSequence first second last) q l h = absurd (miss singleActions 5 tt h)
-tells-nothing (ControlSequence mark first second last) q l h = absurd (miss singleActions 6 tt h)
+pub stays : (a : Action) → OneOf singleActions (tagOf action.the-type a) → false ≡ leavesLine a
+stays = on-singles (λ (a : Action). false ≡ leavesLine a) refl (λ b. refl) refl (λ b. refl) (λ b. refl)
+
+pub tells-nothing : (a : Action) → OneOf singleActions (tagOf action.the-type a) → false ≡ tellsLine a
+tells-nothing = on-singles (λ (a : Action). false ≡ tellsLine a) refl (λ b. refl) refl (λ b. refl) (λ b. refl)
+
+pub line-kept : (a : Action) (n : ℕ) (l : StatusLine) → OneOf singleActions (tagOf action.the-type a) → l ≡ lineTold a n l
+line-kept a n l = on-singles (λ (x : Action). l ≡ lineTold x n l) refl (λ b. refl) refl (λ b. refl) (λ b. refl) a

@@ -1,4 +1,5 @@
 pub mod ActionLaws
 pub mod HeardLaws
+pub mod EventLaws
 pub mod PlainByte
 pub mod WrapLaws

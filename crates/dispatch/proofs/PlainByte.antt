@@ -1,4 +1,4 @@
--- A graphic character in ground: the parser stays as it is, the character is printed, and no reply is drawn.
+-- A graphic character in ground: the parser stays as it is, and the character is printed.
 use mathlib.Core.Path.{_≡_, sym, ap, _∙_}
 use mathlib.Core.Bool.{Bool, true, not, _&&_}
 use Prim.Native.Nat.{ℕ}
@@ -18,8 +18,6 @@ use Rattle.ground.specs.Tests.{between}
 use Rattle.vt.specs.Printing.{printed}
 use Rattle.dispatch.specs.WrapDue.{clearsWrap}
 use Rattle.core.specs.Effects.{withParser}
-use Rattle.device.specs.declared.sending.Reply.the-variants.{Silent}
-use Rattle.dispatch.specs.Replies.{replyTo}
 use Rattle.dispatch.specs.Decide.{executed, decided}
 use Rattle.ground.proofs.TestLaws.{and-left, and-right}
 
@@ -44,7 +42,3 @@ plain-decode s b e h =
 pub plain-decides : (c : Core) (b : ℕ) → c .parser .phase ≡ Ground → graphic b ≡ true → printed c b ≡ decided c b
 unfolding decided executed clearsWrap
 plain-decides c b e h = sym (ap (λ (d : Decoded). executed (withParser c (d .parser)) (d .action)) (plain-decode (c .parser) b e h))
-
-pub plain-silent : (c : Core) (b : ℕ) → c .parser .phase ≡ Ground → graphic b ≡ true → Silent ≡ replyTo c (decode (c .parser) b .action)
-unfolding replyTo
-plain-silent c b e h = sym (ap (λ (d : Decoded). replyTo c (d .action)) (plain-decode (c .parser) b e h))

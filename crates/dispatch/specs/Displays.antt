@@ -6,7 +6,6 @@ use lib.Dec.{eqb, leb}
 use Rattle.cells.specs.Cells.{blank}
 use Rattle.page.specs.declared.Edit.{Edit}
 use Rattle.page.specs.declared.Edit.the-variants.{Keep, FillRange}
-use Rattle.parser.specs.declared.params.Params.{Params}
 use Rattle.parser.specs.declared.parser.Action.{Action}
 use Rattle.parser.specs.declared.parser.Action.the-variants.{Nothing, Character, Substitute, Control, C1Control, EscapeSequence, ControlSequence}
 use Rattle.parser.specs.Params.{param}
@@ -16,7 +15,7 @@ use Rattle.core.specs.declared.Core.{Core}
 use Rattle.core.specs.declared.StatusLine.{StatusLine}
 use Rattle.core.specs.declared.Displays.{Displays}
 use Rattle.core.specs.Effects.{withParser}
-use Rattle.core.specs.StatusLine.{lineView, pageBehind, lineBehind, lineBeside, freshLine, still}
+use Rattle.core.specs.StatusLine.{lineView, pageBehind, lineBehind, lineBeside, freshLine}
 use Rattle.dispatch.specs.Decide.{executed, sends}
 
 -- ---- choosing: both sequences leave every cell, cursor and wrap due
@@ -71,20 +70,31 @@ leavesLine (ControlSequence mark first second last) = isSoftReset mark first sec
 abbrev pub escapeTold : ℕ → ℕ → StatusLine → StatusLine
 escapeTold first last l = cond (isFullReset first last) freshLine l
 
-abbrev pub sequenceTold : Params → ℕ → ℕ → ℕ → ℕ → StatusLine → StatusLine
-sequenceTold q mark first second last l =
+abbrev pub sequenceTold : ℕ → ℕ → ℕ → ℕ → ℕ → StatusLine → StatusLine
+sequenceTold n mark first second last l =
     cond (isSoftReset mark first second last) (lineRenewed l)
-    (cond (isDollar mark first second) (statusSelected last (param q 0) l) l)
+    (cond (isDollar mark first second) (statusSelected last n l) l)
 
--- what an action does to the line beside what it does on a display
-abbrev pub lineTold : Action → Params → StatusLine → StatusLine
-lineTold Nothing q l = l
-lineTold (Character b) q l = l
-lineTold Substitute q l = l
-lineTold (Control b) q l = l
-lineTold (C1Control b) q l = l
-lineTold (EscapeSequence first second last) q l = escapeTold first last l
-lineTold (ControlSequence mark first second last) q l = sequenceTold q mark first second last l
+-- what an action, with its first parameter, does to the line beside what it does on a display
+abbrev pub lineTold : Action → ℕ → StatusLine → StatusLine
+lineTold Nothing n l = l
+lineTold (Character b) n l = l
+lineTold Substitute n l = l
+lineTold (Control b) n l = l
+lineTold (C1Control b) n l = l
+lineTold (EscapeSequence first second last) n l = escapeTold first last l
+lineTold (ControlSequence mark first second last) n l = sequenceTold n mark first second last l
+
+-- whether it does anything to it
+abbrev pub tellsLine : Action → Bool
+tellsLine Nothing = false
+tellsLine (Character b) = false
+tellsLine Substitute = false
+tellsLine (Control b) = false
+tellsLine (C1Control b) = false
+tellsLine (EscapeSequence first second last) = isFullReset first last
+tellsLine (ControlSequence mark first second last) =
+    isSoftReset mark first second last || (isDollar mark first second && (eqb last 0x7D || eqb last 0x7E))
 
 -- ---- an action
 
@@ -110,9 +120,9 @@ abbrev pub onLine : Core → StatusLine → Action → Carried
 onLine c l a =
     let x = executed (lineView c l) a in
     record {
-      displays = record { core = pageBehind c (x .core); line = lineTold a (c .parser .params) (lineBehind l (x .core)) };
+      displays = record { core = pageBehind c (x .core); line = lineTold a (param (c .parser .params) 0) (lineBehind l (x .core)) };
       page = noEdits;
-      line = record { first = still (x .first); second = still (x .second) };
+      line = record { first = x .first; second = x .second };
     }
 
 -- ESC c blanks the line with the page
@@ -123,7 +133,7 @@ abbrev pub onPage : Core → StatusLine → Action → Carried
 onPage c l a =
     let x = executed c a in
     record {
-      displays = record { core = x .core; line = lineTold a (c .parser .params) (lineBeside l (x .core .modes .autowrap)) };
+      displays = record { core = x .core; line = lineTold a (param (c .parser .params) 0) (lineBeside l (x .core .modes .autowrap)) };
       page = record { first = x .first; second = x .second };
       line = lineEdits a;
     }

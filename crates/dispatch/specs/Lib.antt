@@ -3,3 +3,4 @@ pub mod WrapDue
 pub mod Replies
 pub mod Decide
 pub mod Displays
+pub mod Events

@@ -3,9 +3,9 @@ use core::StatusLine;
 use core::status::fresh_line;
 use parser::families::is_dollar;
 use parser::families::is_soft_reset;
-use parser::params::Params;
 use parser::parser::Action;
 ghost use mathlib.Core.Path.{_≡_};
+ghost use Rattle.parser.specs.declared.parser.Action.the-variants.{ControlSequence};
 ghost use Rattle.dispatch.specs.Displays as displays;
 
 // DECSSDT: 0 no line, 1 and 2 a line.
@@ -57,19 +57,19 @@ fn renew_line(mut line: StatusLine) -> StatusLine
 
 fn tell_sequence(
     line: StatusLine,
-    params: Params,
+    selector: u16,
     mark: u8,
     first: u8,
     second: u8,
     last: u8,
 ) -> StatusLine
-    ensures { λ r. ⌜ r ≡ displays.sequenceTold params mark first second last line ⌝ }
+    ensures { λ r. ⌜ r ≡ displays.sequenceTold selector mark first second last line ⌝ }
 {
     if is_soft_reset(mark, first, second, last) {
         return renew_line(line);
     }
     if is_dollar(mark, first, second) {
-        return select_status(line, last, params.get(0));
+        return select_status(line, last, selector);
     }
     line
 }
@@ -90,8 +90,9 @@ fn tell_escape(line: StatusLine, first: u8, last: u8) -> StatusLine
     line
 }
 
-pub fn tell_line(line: StatusLine, action: Action, params: Params) -> StatusLine
-    ensures { λ r. ⌜ r ≡ displays.lineTold action params line ⌝ }
+// `selector` is the action's first parameter.
+pub fn tell_line(line: StatusLine, action: Action, selector: u16) -> StatusLine
+    ensures { λ r. ⌜ r ≡ displays.lineTold action selector line ⌝ }
 {
     match action {
         Action::EscapeSequence {
@@ -104,7 +105,7 @@ pub fn tell_line(line: StatusLine, action: Action, params: Params) -> StatusLine
             first,
             second,
             last,
-        } => tell_sequence(line, params, mark, first, second, last),
+        } => tell_sequence(line, selector, mark, first, second, last),
         _ => line,
     }
 }
@@ -139,6 +140,33 @@ pub fn leaves_line(action: Action) -> bool
             second,
             last,
         } => is_soft_reset(mark, first, second, last),
+        _ => false,
+    }
+}
+
+fn tells_by_sequence(mark: u8, first: u8, second: u8, last: u8) -> bool
+    ensures { λ r. ⌜ r ≡ displays.tellsLine (ControlSequence mark first second last) ⌝ }
+{
+    is_soft_reset(mark, first, second, last)
+        | (is_dollar(mark, first, second) & ((last == 0x7D) | (last == 0x7E)))
+}
+
+// Whether the line is told anything.
+pub fn tells_line(action: Action) -> bool
+    ensures { λ r. ⌜ r ≡ displays.tellsLine action ⌝ }
+{
+    match action {
+        Action::EscapeSequence {
+            first,
+            second: _,
+            last,
+        } => is_full_reset(first, last),
+        Action::ControlSequence {
+            mark,
+            first,
+            second,
+            last,
+        } => tells_by_sequence(mark, first, second, last),
         _ => false,
     }
 }

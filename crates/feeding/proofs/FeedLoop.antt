@@ -10,32 +10,29 @@ use lib.Dec.{ltb}
 use lib.ListN.{length, getD, take, drop, length-drop, drop-of-length-le}
 use lib.Seq.{take-suc, drop-cons, length-take-le}
 use borrow.Author.Tests.{le-ltb, lt-ltb}
+use Rattle.ground.proofs.TestLaws.{either}
 use Rattle.ground.specs.Writes.{Wrote}
 use Rattle.ground.proofs.WriteLaws.{wrote-none, wrote-more}
-use Rattle.idle.specs.declared.Idle.{Idle}
-use Rattle.idle.specs.Idle.{Skipped}
 use Rattle.ground.specs.Spans.{span}
 use Rattle.ground.proofs.SpanLaws.{take-span, drop-span}
 use Rattle.device.specs.ReplyBytes.{replyBytes}
 use Rattle.parser.specs.declared.parser.Action.{Action}
 use Rattle.parser.specs.Parser.{decode}
+use Rattle.core.specs.declared.Core.{Core}
 use Rattle.core.specs.declared.Displays.{Displays}
 use Rattle.core.specs.StatusLine.{lineView}
 use Rattle.dispatch.specs.Replies.{replyTo}
 use Rattle.dispatch.specs.Decide.{sends}
 use Rattle.dispatch.specs.Displays.{carriedOut, active, sendsOf}
+use Rattle.dispatch.specs.Events.{interrupts}
+use Rattle.dispatch.proofs.EventLaws.{uninterrupted, quiet-sends}
 use Rattle.steps.specs.declared.State.{State}
-use Rattle.steps.specs.declared.Tracked.{Tracked}
-use Rattle.steps.specs.declared.byte.AfterByte.{AfterByte}
-use Rattle.steps.specs.declared.characters.Characters.{Characters}
-use Rattle.core.specs.Effects.{withCursor}
-use Rattle.steps.specs.Steps.{Buffers, buffers, Screen, screen, Acted, acted, noted, stepped, ran, ranDisplays, sent, readable}
+use Rattle.steps.specs.Steps.{Buffers, Screen, screen, stepped, ran, ranDisplays, sent, readable}
 use Rattle.steps.specs.Ready.{Ready}
-use Rattle.steps.specs.Spans.{Spanned, SpannedBeside, stateOf, moved, reparsed, after}
-use Rattle.steps.proofs.StepLaws.{ran-append, ran-displays, stepped-displays, sent-append, readable-fits, readable-full, ReadyAt, ready-step, step-long, line-long}
-use Rattle.steps.proofs.SpannedLaws.{spanned-idle}
-use Rattle.feeding.specs.declared.bytes.Sent.{Sent}
+use Rattle.steps.proofs.StepLaws.{ran-append, ran-displays, stepped-displays, sent-append, readable-fits, readable-full}
+use Rattle.steps.proofs.StepLaws.{ReadyAt, ready-step, step-long, line-long, ready-ran, ran-long, line-ran}
 use Rattle.feeding.specs.Bytes.{Fitted, Stopped, feedingAs, readCount, bytesFed}
+use Rattle.feeding.proofs.TurnLaws.{Turned}
 
 -- ---- a byte's reply
 
@@ -49,6 +46,13 @@ active-sends k b a e = rw e (go (k .line .active))
         replyBytes (k .core .modes .eightbit) (replyTo c (decode (k .core .parser) b .action)) ≡ sends c b
     go true = refl
     go false = refl
+
+-- a byte that does not interrupt draws none
+pub uninterrupted-sends : (k : Displays) (b : ℕ) → interrupts (k .core .parser .phase) b ≡ false → sendsOf k b ≡ []
+unfolding sendsOf lineView
+uninterrupted-sends k b h =
+    let quiet = uninterrupted (k .core .parser) b h in
+    either (λ (c : Core). sends c b ≡ []) (k .line .active) (λ _. quiet-sends (lineView (k .core) (k .line)) b quiet) (λ _. quiet-sends (k .core) b quiet)
 
 -- ---- what was fed
 
@@ -114,17 +118,11 @@ module _ {s₀ : State} {p₀ : Buffers} {input o₀ : List ℕ} {i : ℕ} {s : 
     sent-next = rw (taken, sent-append, ← displays-are, append-nil)
 
     -- one byte more
-    pub fed-more : (r : Sent) (o' : List ℕ) → Fitted (s .displays) b o n r o' → (a : AfterByte) (p' : Buffers)
-        → after a (p' .page) (p' .line) ≡ acted (s .displays) p b → (t : Tracked) → t ≡ noted (s .tracked) (a .changed) (a .flag)
-        → FedSoFar s₀ p₀ input o₀ (i + 1) (stateOf (a .core) (a .line) t) p' o' (r .replied)
-    unfolding ran stepped
-    fed-more r o' F a p' A t et =
-        let s' : State = stateOf (a .core) (a .line) t in
-        let n' : ℕ = r .replied in
+    fed-more : (n' : ℕ) (o' : List ℕ) → Fitted (s .displays) b o n n' o' → (s' : State) (p' : Buffers) → screen s' p' ≡ stepped (screen s p) b
+        → FedSoFar s₀ p₀ input o₀ (i + 1) s' p' o' n'
+    unfolding ran
+    fed-more n' o' F s' p' ed =
         let fits : length (sendsOf (s .displays) b) ≤ length o₀ - n = omega (arith, F .room, R .sending .long) in
-        let ed : screen s' p' ≡ stepped (screen s p) b =
-        ap (λ (x : Tracked). screen (stateOf (a .core) (a .line) x) p') et
-        ∙ ap (λ (x : Acted). record { displays = x .displays; buffers = x .buffers; tracked = noted (s .tracked) (x .changed) (x .flag) }) A in
         let k' : s' .displays ≡ carriedOut (s .displays) b .displays = ap (λ (d : Screen). d .displays) ed ∙ stepped-displays (screen s p) b in
         let left' : length o₀ - n - length (sendsOf (s .displays) b) ≡ length o₀ - n' = omega (arith, F .wrote .ends) in
         let one : readable (length o₀ - n) (s .displays) (drop i input) ≡ suc (readable (length o₀ - n') (s' .displays) (drop (i + 1) input)) =
@@ -155,35 +153,36 @@ module _ {s₀ : State} {p₀ : Buffers} {input o₀ : List ℕ} {i : ℕ} {s : 
       ended false (rw (en, le-ltb i (length input) all)) en
 
   -- bytes that send nothing
-  fed-span : (j : ℕ) (s' : State) (p' : List ℕ) → Spanned s (p .page) input i j s' p' → FedSoFar s₀ p₀ input o₀ j s' (buffers p' (p .line)) o n
-  unfolding ran
-  fed-span j s' p' S =
+  fed-span : (j : ℕ) → i ≤ j → j ≤ length input → sent (s .displays) (span input i j) ≡ [] → (s' : State) (p' : Buffers)
+      → screen s' p' ≡ ran (screen s p) (span input i j) → FedSoFar s₀ p₀ input o₀ j s' p' o n
+  fed-span j start end silent s' p' is =
       let xs : List ℕ = span input i j in
-      let taken : take j input ≡ take i input ++ xs = take-span input i j (S .start) in
-      let is : screen s' (buffers p' (p .line)) ≡ ran (screen s p) xs = S .screen-is (p .line) in
+      let taken : take j input ≡ take i input ++ xs = take-span input i j start in
       let displays-are' : s' .displays ≡ ranDisplays (s .displays) xs = ap (λ (d : Screen). d .displays) is ∙ ran-displays (screen s p) xs in
       let sent-is : sent (s₀ .displays) (take j input) ≡ sent (s₀ .displays) (take i input) =
-      rw (taken, sent-append, ← displays-are, S .silent) (append-nil (sent (s₀ .displays) (take i input))) in
+      rw (taken, sent-append, ← displays-are, silent) (append-nil (sent (s₀ .displays) (take i input))) in
       let all : readable (length o₀ - n) (s .displays) (drop i input) ≡ length xs + readable (length o₀ - n) (s' .displays) (drop j input) =
-      ap (readable (length o₀ - n) (s .displays)) (drop-span input i j (S .start))
-      ∙ rw displays-are' (readable-silent (length o₀ - n) (s .displays) xs (drop j input) (S .silent)) in
+      ap (readable (length o₀ - n) (s .displays)) (drop-span input i j start)
+      ∙ rw displays-are' (readable-silent (length o₀ - n) (s .displays) xs (drop j input) silent) in
       record {
-        within = S .end;
+        within = end;
         screen-is = cc (is, R .screen-is, ran-append (screen s₀ p₀) (take i input) xs, taken);
         sending = rw sent-is (R .sending);
         room = R .room;
-        left = omega (arith, R .left, all, span-length input i j (S .start) (S .end));
-        ready = S .ready;
-        long = S .long ∙ R .long;
-        line-size = R .line-size;
+        left = omega (arith, R .left, all, span-length input i j start end);
+        ready = subst ReadyAt (sym is) (ready-ran (screen s p) xs (R .ready));
+        long = ap (λ (d : Screen). length (d .buffers .page)) is ∙ ran-long (screen s p) xs (R .ready) ∙ R .long;
+        line-size = ap (λ (d : Screen). length (d .buffers .line)) is ∙ line-ran (screen s p) xs (R .ready) (R .line-size);
       }
 
--- characters that are just put, then bytes that only move the parser
-pub fed-spans : {s₀ : State} {p₀ : Buffers} {input o₀ : List ℕ} {i : ℕ} {s : State} {p : Buffers} {o : List ℕ} {n : ℕ}
-    → FedSoFar s₀ p₀ input o₀ i s p o n → (r : Characters) (p' : List ℕ)
-    → SpannedBeside (s .displays .line .active) (s .displays .core) (s .tracked) (p .page) input i (r .next)
-    (withCursor (s .displays .core) (r .cursor)) (r .tracked) p' → (x : Idle) → Skipped (s .displays .core .parser) input (r .next) x
-    → FedSoFar s₀ p₀ input o₀ (x .next) (reparsed (moved (s .displays .core) (s .displays .line) r) (x .parser)) (buffers p' (p .line)) o n
-fed-spans {s = s} {p = p} R r p' S x K =
-    let M = fed-span R (r .next) _ p' (S (s .displays .line) refl (R .ready .whole .displays .line)) in
-    fed-span M (x .next) _ p' (spanned-idle _ p' _ (r .next) x (M .ready) K)
+-- ---- a turn
+
+-- the reply of its first byte fits
+pub fed-turn : {s₀ : State} {p₀ : Buffers} {input o₀ : List ℕ} {i : ℕ} {s : State} {p : Buffers} {o : List ℕ} {n : ℕ} → FedSoFar s₀ p₀ input o₀ i s p o n
+    → i < length input → (b : ℕ) → b ≡ getD input i 0 → (n' : ℕ) (o' : List ℕ) → Fitted (s .displays) b o n n' o'
+    → (m : ℕ) (s' : State) (p' : Buffers) → Turned input i m s p b s' p' → FedSoFar s₀ p₀ input o₀ (i + m) s' p' o' n'
+unfolding ran
+fed-turn {input = input} {i = i} {s = s} {p = p} R more b eb n' o' F m s' p' T =
+    let d = stepped (screen s p) b in
+    let M = fed-more R more b eb n' o' F (record { displays = d .displays; tracked = d .tracked }) (d .buffers) refl in
+    fed-span M (i + m) (omega (arith, T .some)) (T .within) (rw (stepped-displays (screen s p) b) (T .silent)) s' p' (T .screen-is)

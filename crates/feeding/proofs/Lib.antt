@@ -1,1 +1,3 @@
+pub mod DisplayLoop
+pub mod TurnLaws
 pub mod FeedLoop

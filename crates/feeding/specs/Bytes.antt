@@ -9,25 +9,27 @@ use lib.Seq.{sets}
 use Rattle.ground.specs.Writes.{Wrote}
 use Rattle.core.specs.declared.Displays.{Displays}
 use Rattle.dispatch.specs.Displays.{sendsOf}
+use Rattle.dispatch.specs.Events.{heeded}
 use Rattle.steps.specs.declared.State.{State}
-use Rattle.feeding.specs.declared.bytes.Sent.{Sent}
+use Rattle.feeding.specs.declared.bytes.Heeded.{Heeded}
 use Rattle.feeding.specs.declared.bytes.FedBytes.{FedBytes}
 use Rattle.steps.specs.Steps.{Buffers, screen, ran, sent, readable}
 
 -- ---- a byte's reply, where n bytes are in the reply buffer
 
 -- it fits and was sent
-pub record Fitted (k : Displays) (b : ℕ) (o : List ℕ) (n : ℕ) (r : Sent) (o' : List ℕ) : Type 0 where
+pub record Fitted (k : Displays) (b : ℕ) (o : List ℕ) (n n' : ℕ) (o' : List ℕ) : Type 0 where
   pub room : length (sendsOf k b) ≤ length o - n
-  pub wrote : Wrote o n (sendsOf k b) o' (r .replied)
+  pub wrote : Wrote o n (sendsOf k b) o' n'
 
 -- it does not fit, and nothing was sent
 pub record Stopped (k : Displays) (b : ℕ) (o : List ℕ) (n : ℕ) (o' : List ℕ) : Type 0 where
   pub room : length o - n < length (sendsOf k b)
   pub reply : o' ≡ o
 
-pub record ReplySent (k : Displays) (b : ℕ) (o : List ℕ) (n : ℕ) (r : Sent) (o' : List ℕ) : Type 0 where
-  pub fits : r .full ≡ false → Fitted k b o n r o'
+pub record Answered (k : Displays) (b : ℕ) (o : List ℕ) (n : ℕ) (r : Heeded) (o' : List ℕ) : Type 0 where
+  pub action : r .action ≡ heeded (k .core .parser) b
+  pub fits : r .full ≡ false → Fitted k b o n (r .replied) o'
   pub stopped : r .full ≡ true → Stopped k b o n o'
 
 -- ---- the input

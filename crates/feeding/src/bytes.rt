@@ -1,32 +1,44 @@
-// Bytes, one after the other.
+// Bytes, one after the other, on page and line.
+use crate::display::feed_display;
+use cells::BLANK;
 use core::Core;
 use core::Displays;
 use core::StatusLine;
+use core::status::line_behind;
+use core::status::line_beside;
 use core::status::line_view;
+use core::status::page_behind;
 use device::sending::Reply;
 use device::sending::reply_len;
 use device::sending::send;
+use dispatch::displays::leaves_line;
+use dispatch::displays::resets_all;
+use dispatch::displays::tell_line;
+use dispatch::displays::tells_line;
+use dispatch::events::interruption;
+use dispatch::events::interrupts;
 use dispatch::reply::reply_to;
-use idle::skip_idle;
+use page::Edit;
+use page::edits::apply;
 use parser::parser::Action;
 use steps::State;
 use steps::Tracked;
-use steps::byte::step;
-use steps::characters::print_characters;
 ghost use mathlib.Core.Path.{_≡_};
-ghost use Prim.Native.Nat.{_≤_};
+ghost use mathlib.Core.Bool.{cond, not};
+ghost use Prim.Native.Nat.{_+_, _≤_, _<_};
+ghost use lib.Dec.{eqb};
 ghost use lib.ListN.{length};
-ghost use Rattle.parser.specs.Parser.{decode};
 ghost use Rattle.core.specs.Whole.{WholeDisplays};
 ghost use Rattle.dispatch.specs.Replies.{replyTo};
-ghost use Rattle.dispatch.specs.Displays.{active};
-ghost use Rattle.steps.specs.Steps.{buffers};
-ghost use Rattle.steps.specs.Spans.{stateOf};
-ghost use Rattle.steps.specs.Ready.{Ready};
-ghost use Rattle.feeding.specs.Bytes.{ReplySent, bytesFed};
+ghost use Rattle.dispatch.specs.Displays.{active, lineEdits};
+ghost use Rattle.steps.specs.Steps.{buffers, editedBy};
+ghost use Rattle.steps.specs.Ready.{Ready, stateFrom};
+ghost use Rattle.feeding.specs.Bytes.{Answered, bytesFed};
 
-// How many bytes are in the reply buffer, and whether a byte's reply does not fit.
-pub struct Sent {
+// What a byte that may draw a reply or tell the line something asks for, and nothing of any other; how many bytes are in the
+// reply buffer; and whether its reply does not fit.
+pub struct Heeded {
+    pub action: Action,
     pub replied: usize,
     pub full: bool,
 }
@@ -51,30 +63,63 @@ fn active_reply(core: Core, line: StatusLine, action: Action) -> Reply
     reply_to(core, action)
 }
 
-// The byte's reply is sent, or it does not fit. `byte` is there for the promise alone.
-fn send_reply(
-    core: Core,
-    line: StatusLine,
-    byte: u8,
-    action: Action,
-    reply: &mut [u8],
-    replied: usize,
-) -> Sent
-    requires { ⌜ WholeDisplays (record { core = core; line = line }) × (action ≡ decode (core .parser) byte .action) × (replied ≤ length (now reply)) ⌝ }
-    ensures { λ r. ⌜ ReplySent (record { core = core; line = line }) byte (now (reply .entry)) replied r (now (reply .exit)) ⌝ }
+// Before a byte is done: its reply is sent, or it does not fit.
+fn heed(core: Core, line: StatusLine, byte: u8, reply: &mut [u8], replied: usize) -> Heeded
+    requires { ⌜ WholeDisplays (record { core = core; line = line }) × (replied ≤ length (now reply)) ⌝ }
+    ensures { λ r. ⌜ Answered (record { core = core; line = line }) byte (now (reply .entry)) replied r (now (reply .exit)) ⌝ }
 {
+    let parser = core.parser;
+    let phase = parser.phase;
+    if !interrupts(phase, byte) {
+        return Heeded {
+            action: Action::Nothing,
+            replied,
+            full: false,
+        };
+    }
+    let action = interruption(parser, byte);
     let eightbit = core.modes.eightbit;
     let kind = active_reply(core, line, action);
     if reply.len() - replied < reply_len(eightbit, kind) {
-        return Sent {
+        return Heeded {
+            action,
             replied,
             full: true,
         };
     }
-    Sent {
+    Heeded {
+        action,
         replied: send(eightbit, kind, reply, replied),
         full: false,
     }
+}
+
+// RIS blanks the line with the page. Whether that changed it.
+fn blank_line(action: Action, cells: &mut [u16]) -> bool
+    requires { ⌜ length (now cells) ≡ 80 ⌝ }
+    ensures { λ r. ⌜ (now (cells .exit) ≡ editedBy 1 (lineEdits action) (now (cells .entry)) .page)
+        × (r ≡ not (eqb (editedBy 1 (lineEdits action) (now (cells .entry)) .changed) 0)) ⌝ }
+{
+    if resets_all(action) {
+        let whole = Edit::FillRange {
+            from: 0,
+            to: 80,
+            word: BLANK,
+        };
+        return apply(whole, cells, 1) != 0;
+    }
+    false
+}
+
+// Where a turn ends: after one byte, or with the input.
+fn turn_end(alone: bool, from: usize, len: usize) -> usize
+    requires { ⌜ from < len ⌝ }
+    ensures { λ r. ⌜ r ≡ cond alone (from + 1) len ⌝ }
+{
+    if alone {
+        return from + 1;
+    }
+    len
 }
 
 fn ended(
@@ -85,7 +130,7 @@ fn ended(
     replied: usize,
     full: bool,
 ) -> FedBytes
-    ensures { λ r. ⌜ r ≡ record { state = stateOf core line tracked; read = read; replied = replied; full = full } ⌝ }
+    ensures { λ r. ⌜ r ≡ record { state = stateFrom core line tracked; read = read; replied = replied; full = full } ⌝ }
 {
     FedBytes {
         state: State {
@@ -98,8 +143,8 @@ fn ended(
     }
 }
 
-// The bytes of the input, until one's reply does not fit: characters that are just put, bytes that
-// only move the parser, then one of any kind.
+// The bytes of the input, until one's reply does not fit: one that acts on the line or tells it something, or as many as go
+// on the page at once.
 pub fn feed_bytes(
     state: State,
     page: &mut [u16],
@@ -117,29 +162,29 @@ pub fn feed_bytes(
     let mut i = 0;
     let mut replied = 0;
     while i < input.len() {
-        let printed = print_characters(core, line.active, tracked, page, input, i);
-        let cursor = printed.cursor;
-        core.cursor = cursor;
-        tracked = printed.tracked;
-        let parser = core.parser;
-        let idle = skip_idle(parser, input, printed.next);
-        let parser = idle.parser;
-        core.parser = parser;
-        i = idle.next;
-        if i < input.len() {
-            let byte = input[i];
-            let decoded = parser.decode(byte);
-            let action = decoded.action;
-            let sent = send_reply(core, line, byte, action, reply, replied);
-            if sent.full {
-                return ended(core, line, tracked, i, replied, true);
-            }
-            replied = sent.replied;
-            let after = step(core, line, byte, decoded, page, cells);
-            core = after.core;
-            line = after.line;
-            tracked = tracked.note(after.changed, after.flag);
+        let heeded = heed(core, line, input[i], reply, replied);
+        if heeded.full {
+            return ended(core, line, tracked, i, replied, true);
+        }
+        replied = heeded.replied;
+        let action = heeded.action;
+        let params = core.parser.params;
+        let selector = params.get(0);
+        if line.active & !leaves_line(action) {
+            let run = feed_display(line_view(core, line), 0, cells, &input[i..i + 1]);
+            let view = run.core;
+            core = page_behind(core, view);
+            line = tell_line(line_behind(line, view), action, selector);
+            tracked.flag = (run.changed != 0) | tracked.flag;
             i += 1;
+        } else {
+            let end = turn_end(tells_line(action), i, input.len());
+            let run = feed_display(core, tracked.changed, page, &input[i..end]);
+            core = run.core;
+            line = tell_line(line_beside(line, run.lasting), action, selector);
+            tracked.changed = run.changed;
+            tracked.flag = blank_line(action, cells) | tracked.flag;
+            i += run.read;
         }
     }
     ended(core, line, tracked, i, replied, false)

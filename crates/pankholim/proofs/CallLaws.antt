@@ -58,11 +58,11 @@ pub start-leaves : (t : Terminal) (n : ℕ) (p : Buffers) (d : Started) (q : Buf
 start-leaves t n p d q r u done er eu =
     rw (er, eu, ← done) (record { answer-is = refl; state-is = state-left t (refusal (d .answer)) (d .state); terminal-is = refl; buffers-is = refl })
 
-pub ask-leaves : (t : Terminal) (s : State) (d : Asked) (line r : ℕ) (u : Terminal)
-    → s ≡ stateOf t → record { number = number (d .answer); result = d } ≡ asked s → line ≡ flagNumber (d .flag)
+pub ask-leaves : (t : Terminal) (s : State) (d : Asked) (flag r : ℕ) (u : Terminal)
+    → s ≡ stateOf t → record { number = number (d .answer); result = d } ≡ asked s → flag ≡ flagNumber (d .flag)
     → r ≡ number (d .answer) → u ≡ recordLeft t (d .answer) (d .state)
-    → AskLeaves t (asked (stateOf t)) r u (d .rows) (d .count) line
-ask-leaves t s d line r u es ed el er eu =
+    → AskLeaves t (asked (stateOf t)) r u (d .rows) (d .count) flag
+ask-leaves t s d flag r u es ed el er eu =
     let done = rw es at ed in
     let kept = rw (← done) at (ask-kept (stateOf t)) in
     rw (el, er, eu, ← done)
@@ -72,7 +72,7 @@ ask-leaves t s d line r u es ed el er eu =
       terminal-is = refl;
       changed-is = refl;
       count-is = refl;
-      line-is = refl;
+      flag-is = refl;
     })
 
 pub feed-leaves : (t : Terminal) (s : State) (p : Buffers) (i o : List ℕ) (d : Fed) (q : Buffers) (reply : List ℕ) (r : ℕ) (u : Terminal)

@@ -43,13 +43,13 @@ pub record FeedLeaves (t : Terminal) (d : Feed) (r : ℕ) (terminal : Terminal) 
 
 -- t is the record at entry, and d is `asked` of its state; the number returned, and the record, the changed rows, how many they are and the line's flag
 -- at exit
-pub record AskLeaves (t : Terminal) (d : Ask) (r : ℕ) (terminal : Terminal) (changed count line : ℕ) : Type 0 where
+pub record AskLeaves (t : Terminal) (d : Ask) (r : ℕ) (terminal : Terminal) (changed count flag : ℕ) : Type 0 where
   pub answer-is : r ≡ d .number
   pub state-is : stateOf terminal ≡ d .result .state
   pub terminal-is : terminal ≡ recordLeft t (d .result .answer) (d .result .state)
   pub changed-is : changed ≡ d .result .rows
   pub count-is : count ≡ d .result .count
-  pub line-is : line ≡ flagNumber (d .result .flag)
+  pub flag-is : flag ≡ flagNumber (d .result .flag)
 
 -- d is `cellRead` of a record's state, a page, a row and a column; the number returned, and the word at exit
 pub record ReadLeaves (d : Read) (r word : ℕ) : Type 0 where

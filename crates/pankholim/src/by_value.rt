@@ -46,6 +46,7 @@ pub fn start(terminal: Terminal, rows: usize, page: &mut [u16], line: &mut [u16]
     }
 }
 
+// `record_left` is written out here: called, it costs a feeding some 180 bytes of stack.
 pub fn feed(
     terminal: Terminal,
     page: &mut [u16],
@@ -63,20 +64,26 @@ pub fn feed(
     *read = done.read;
     *replied = done.replied;
     let answer = done.answer;
+    if is_refusal(answer) {
+        return Outcome {
+            answer: number(answer),
+            terminal,
+        };
+    }
     Outcome {
         answer: number(answer),
-        terminal: record_left(terminal, answer, done.state),
+        terminal: record_of(done.state),
     }
 }
 
-pub fn ask(terminal: Terminal, changed: &mut u64, count: &mut u32, line: &mut u8) -> Outcome
+pub fn ask(terminal: Terminal, changed: &mut u64, count: &mut u32, flag: &mut u8) -> Outcome
     ensures { λ r. ⌜ leaving.AskLeaves terminal (asked (stateOf terminal))
-        (r .answer) (r .terminal) (now (changed .exit)) (now (count .exit)) (now (line .exit)) ⌝ }
+        (r .answer) (r .terminal) (now (changed .exit)) (now (count .exit)) (now (flag .exit)) ⌝ }
 {
     let done = calls::ask(state_of(terminal));
     *changed = done.rows;
     *count = done.count;
-    *line = flag_number(done.flag);
+    *flag = flag_number(done.flag);
     let answer = done.answer;
     Outcome {
         answer: number(answer),

@@ -78,12 +78,12 @@ pub extern "C" fn pankholim_ask(
     terminal: &mut Terminal,
     changed: &mut u64,
     count: &mut u32,
-    line: &mut u8,
+    flag: &mut u8,
 ) -> u8
     ensures { λ r. ⌜ AskLeaves (now (terminal .entry)) (asked (stateOf (now (terminal .entry))))
-        r (now (terminal .exit)) (now (changed .exit)) (now (count .exit)) (now (line .exit)) ⌝ }
+        r (now (terminal .exit)) (now (changed .exit)) (now (count .exit)) (now (flag .exit)) ⌝ }
 {
-    let outcome = by_value::ask(*terminal, changed, count, line);
+    let outcome = by_value::ask(*terminal, changed, count, flag);
     *terminal = outcome.terminal;
     outcome.answer
 }

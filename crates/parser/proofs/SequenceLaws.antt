@@ -1,18 +1,20 @@
 -- 20 to 7E of a sequence: where parameters are read they go by one rule, and 40 to 7E end it.
-use mathlib.Core.Path.{_≡_, _∙_}
-use mathlib.Core.Bool.{true, false, _&&_}
+use mathlib.Core.Path.{_≡_, refl, sym, ap, _∙_}
+use mathlib.Core.Bool.{true, false, cond, _&&_, and-false}
 use Prim.Native.Nat.{ℕ, _≤_, _<_}
 use native.Mathlib.Omega.{arith}
-use borrow.Author.Tests.{eqb-true, ne-eqb, le-ltb, lt-leb}
+use lib.Dec.{leb}
+use borrow.Author.Tests.{eqb-true, ne-eqb, leb-true, le-ltb, lt-leb}
 use Rattle.parser.specs.declared.phases.Phase.{Phase}
 use Rattle.parser.specs.declared.phases.Phase.the-variants.{Ground, CsiEntry, CsiParam, CsiIgnore}
 use Rattle.parser.specs.declared.phases.Op.the-variants.{Ignore, Mark, CsiDispatch}
 use Rattle.parser.specs.declared.phases.Transition.{Transition}
 use Rattle.parser.specs.declared.parser.Parser.{Parser}
+use Rattle.parser.specs.declared.parser.Decoded.{Decoded}
 use Rattle.parser.specs.Parser.{to, parameterRule, sequenceRule, lowered, transition, inPhase, kept, sequenceAction, actionOf, decode}
 use Rattle.ground.specs.Tests.{between}
 use Rattle.parser.specs.Phases.{phaseNumber, isPhase, isGround, isString, takesParameters, intermediates}
-use Rattle.ground.proofs.TestLaws.{and-left, and-right, or-cases, between-low, between-high}
+use Rattle.ground.proofs.TestLaws.{and-left, and-right, or-cases, between-low, between-high, either}
 
 -- what is decoded goes by the transition
 pub decode-by : (s : Parser) (b : ℕ) (t : Transition) → transition (s .phase) b ≡ t
@@ -26,6 +28,32 @@ unfolding transition
 in-sequence p b g t l u =
     rw (ne-eqb b 0x18 (omega arith), ne-eqb b 0x1A (omega arith), ne-eqb b 0x1B (omega arith), lt-leb 0x80 b (omega arith))
     (rw (g, t, le-ltb b 0x20 l, ne-eqb b 0x7F (omega arith)))
+
+-- in a string no byte is read by the rule of sequences
+string-rule : (p : Phase) (x : ℕ) → cond (isString p) (to p Ignore) (sequenceRule p x) ≡ sequenceRule p x
+string-rule p x = either (λ (t : Transition). t ≡ sequenceRule p x) (isString p) (λ e. rw (eqb-true (phaseNumber p) 10 e)) (λ _. refl)
+
+-- 40 to 7E, and the bytes that are read as they, are no controls
+final-apart : (b : ℕ) → 0x40 ≤ lowered b → (0x40 ≤ b) × (between 0x80 b 0x9F ≡ false)
+final-apart b =
+    either (λ (x : ℕ). 0x40 ≤ x → (0x40 ≤ b) × (between 0x80 b 0x9F ≡ false)) (leb 0x80 b)
+    (λ e h. let l = leb-true 0x80 b e in (omega arith, rw (lt-leb b 0x9F (omega arith)) (and-false (leb 0x80 b))))
+    (λ e h. (h, rw e))
+
+-- they go by the rule of sequences
+final-rule : (p : Phase) (b : ℕ) → isGround p ≡ false → 0x40 ≤ lowered b → lowered b < 0x7F → transition p b ≡ sequenceRule p (lowered b)
+unfolding transition
+final-rule p b g l u =
+    let apart = final-apart b l in
+    let low = apart .0 in
+    rw (ne-eqb b 0x18 (omega arith), ne-eqb b 0x1A (omega arith), ne-eqb b 0x1B (omega arith), apart .1, g, le-ltb b 0x20 (omega arith), ne-eqb (lowered b) 0x7F (omega arith))
+    (string-rule p (lowered b))
+
+pub final-acts : (s : Parser) (b : ℕ) → isGround (s .phase) ≡ false → 0x40 ≤ lowered b → lowered b < 0x7F → (t : Transition) → t ≡ sequenceRule (s .phase) (lowered b)
+    → actionOf s (t .op) b ≡ decode s b .action
+final-acts s b g l u t e =
+    ap (λ (x : Transition). actionOf s (x .op) b) (e ∙ sym (final-rule (s .phase) b g l u))
+    ∙ sym (ap (λ (d : Decoded). d .action) (decode-by s b (transition (s .phase) b) refl))
 
 -- two phases take parameters
 parameter-phases : {C : Type 0} (p : Phase) → (phaseNumber p ≡ 5 → C) → (phaseNumber p ≡ 6 → C) → takesParameters p ≡ true → C

@@ -7,10 +7,14 @@ use crate::phases::Op;
 use crate::phases::Phase;
 use crate::phases::intermediates;
 use crate::phases::takes_parameters;
+use crate::rules::sequence_rule;
 use crate::rules::transition;
 use ground::numbers::pick;
 use ground::tests::between;
 ghost use mathlib.Core.Path.{_≡_};
+ghost use mathlib.Core.Bool.{false};
+ghost use Prim.Native.Nat.{_≤_, _<_};
+ghost use Rattle.parser.specs.Phases.{isGround};
 ghost use Rattle.parser.specs.Parser as parsing;
 
 // `mark` is 0 where the sequence has none, and 80 more with subparameters (families.rt). `first` and `second` are the intermediates.
@@ -215,6 +219,17 @@ impl Parser {
             ),
             _ => Action::Nothing,
         }
+    }
+
+    // What 40 to 7E ask for in a sequence, also as the byte 80 higher.
+    pub fn final_action(self, byte: u8) -> Action
+        requires { ⌜ (0x40 ≤ parsing.lowered byte) × (parsing.lowered byte < 0x7F) × (isGround (self .phase) ≡ false) ⌝ }
+        ensures { λ r. ⌜ r ≡ parsing.decode self byte .action ⌝ }
+    {
+        let phase = self.phase;
+        let step = sequence_rule(phase, byte % 128);
+        let op = step.op;
+        self.action_of(op, byte)
     }
 
     // One byte. The end of a control sequence needs no rule.

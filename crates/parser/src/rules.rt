@@ -97,7 +97,7 @@ fn escape_rule(x: u8) -> Transition
 }
 
 // 20 to 7E in a sequence. In the other phases no byte is read by this rule.
-fn sequence_rule(phase: Phase, x: u8) -> Transition
+pub fn sequence_rule(phase: Phase, x: u8) -> Transition
     requires { ⌜ x < 128 ⌝ }
     ensures { λ r. ⌜ r ≡ parsing.sequenceRule phase x ⌝ }
 {

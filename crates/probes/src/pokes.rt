@@ -143,7 +143,10 @@ fn poke_tracked(tracked: Tracked, field: u16, n: u16) -> Tracked
     match field {
         12 => {
             let row = (n as u32 + 63) % 64;
-            tracked.note(row_bit(row as u8, true), false)
+            Tracked {
+                changed: tracked.changed | row_bit(row as u8, true),
+                flag: tracked.flag,
+            }
         }
         19 => Tracked {
             changed: tracked.changed,

@@ -1,4 +1,4 @@
--- A character that is just put, and the end of a line: one step, which sends nothing and moves the cursor alone.
+-- A character that is just put, and the end of a line: one step, which moves the cursor alone.
 use mathlib.Core.Path.{_≡_, refl, sym, ap, _∙_, subst}
 use mathlib.Core.Bool.{Bool, true, false, cond, not, _&&_, _||_, false≢true, and-false}
 use mathlib.Core.List.{List, [], _∷_}
@@ -31,7 +31,6 @@ use Rattle.ground.proofs.TestLaws.{and-left, and-right, or-cases, between-low, 
 use Rattle.device.specs.declared.charsets.SingleShift.{SingleShift}
 use Rattle.device.specs.declared.charsets.SingleShift.the-variants.{NoShift, Ss2, Ss3}
 use Rattle.device.proofs.charsets.SingleShift as shift
-use Rattle.device.specs.ReplyBytes.{replyBytes}
 use Rattle.device.specs.Charsets.{has96}
 use Rattle.core.specs.declared.Core.{Core}
 use Rattle.core.specs.declared.Decision.{Decision}
@@ -43,14 +42,15 @@ use Rattle.vt.specs.Controls.{nextLined, indexed, controlled}
 use Rattle.core.specs.Geometry.{leftStop, rightStop, stopsOf}
 use Rattle.core.specs.Glyphs.{usedSet, skipped, glyph}
 use Rattle.vt.specs.Printing.{indexEdit, put, printed}
-use Rattle.dispatch.proofs.HeardLaws.{reply-heard}
 use Rattle.dispatch.specs.WrapDue.{clearsWrap, withWrapPolicy}
-use Rattle.dispatch.specs.Decide.{executed, decided, sends}
+use Rattle.dispatch.specs.Decide.{executed, decided}
+use Rattle.dispatch.specs.Events.{isEventful}
 use Rattle.wholeness.proofs.Sound.{decided-sound}
-use Rattle.dispatch.proofs.PlainByte.{graphic, plain-decode, plain-decides, plain-silent}
+use Rattle.dispatch.proofs.PlainByte.{graphic, plain-decode, plain-decides}
 use Rattle.steps.specs.Steps.{editedBy}
+use Rattle.steps.specs.OneDisplay.{editsOf, Quiet}
 use Rattle.steps.specs.Ready.{Paged}
-use Rattle.steps.specs.Spans.{isCharacter, isUnshifted, printsDirectly, lineStart, Direct, isSingle, editsOf, Moves}
+use Rattle.steps.specs.Spans.{isCharacter, isUnshifted, printsDirectly, lineStart, Direct, Moves}
 use Rattle.steps.proofs.ByteLaws.{edits-are}
 
 -- ---- what the tests tell
@@ -103,13 +103,8 @@ module _ (c : Core) (b : ℕ) (plain : printsDirectly c ≡ true) (char : isChar
   no-insert : c .modes .insert ≡ false
   no-insert = not-true (c .modes .insert) (search (and-left, and-right))
 
-  -- it sends nothing
-  put-silent : sends c b ≡ []
-  unfolding sends replyBytes
-  put-silent = ap (replyBytes (c .modes .eightbit)) (sym (plain-silent c b ground (character-is b char .graphic-is)))
-
-  put-single : isSingle (decode (c .parser) b .action) ≡ true
-  put-single = ap (λ (d : Decoded). isSingle (d .action)) (plain-decode (c .parser) b ground (character-is b char .graphic-is))
+  put-quiet : Quiet c b
+  put-quiet = ap (λ (d : Decoded). isEventful (d .action)) (plain-decode (c .parser) b ground (character-is b char .graphic-is))
 
   unskipped : skipped (usedSet c b) b ≡ false
   unskipped = ap (λ (t : Bool). not (has96 (usedSet c b)) && t) (character-is b char .shown) ∙ and-false (not (has96 (usedSet c b)))
@@ -142,14 +137,8 @@ control-decides : (c : Core) (b : ℕ) → printsDirectly c ≡ true → b < 0x1
 unfolding decided
 control-decides c b h l = rw (control-decode (c .parser) b (plain-ground c h) l)
 
--- a control sends nothing
-control-silent : (c : Core) (b : ℕ) → printsDirectly c ≡ true → b < 0x18 → sends c b ≡ []
-unfolding sends replyBytes
-control-silent c b h l =
-    rw (control-decode (c .parser) b (plain-ground c h) l) (ap (replyBytes (c .modes .eightbit)) (sym (reply-heard c (Control b))))
-
-control-single : (c : Core) (b : ℕ) → printsDirectly c ≡ true → b < 0x18 → isSingle (decode (c .parser) b .action) ≡ true
-control-single c b h l = ap (λ (d : Decoded). isSingle (d .action)) (control-decode (c .parser) b (plain-ground c h) l)
+control-quiet : (c : Core) (b : ℕ) → printsDirectly c ≡ true → b < 0x18 → Quiet c b
+control-quiet c b h l = ap (λ (d : Decoded). isEventful (d .action)) (control-decode (c .parser) b (plain-ground c h) l)
 
 -- CR
 return-decides : (c : Core) → printsDirectly c ≡ true → oneEdit (withCursor c (toColumn (c .cursor) (leftStop c))) Keep ≡ decided c 0x0D
@@ -196,14 +185,13 @@ start-row false u left = refl
 
 -- ---- a step that moves the cursor and makes one edit
 
-moves-by : (c : Core) (p q : List ℕ) (b m : ℕ) (u : Cursor) (e : Edit) → Paged c p → sends c b ≡ [] → isSingle (decode (c .parser) b .action) ≡ true
+moves-by : (c : Core) (p q : List ℕ) (b m : ℕ) (u : Cursor) (e : Edit) → Paged c p → Quiet c b
     → oneEdit (withCursor c u) e ≡ decided c b → length q ≡ length p → Applied (c .rows) e p q m → Moves c p b u m q
-moves-by c p q b m u e k quiet single d el A =
+moves-by c p q b m u e k quiet d el A =
     let r = c .rows in
     let within : Within r e = subst (λ (x : Decision). Within r (x .first)) (sym d) (decided-sound c b (k .whole) .first) in
     record {
-      silent = quiet;
-      single = single;
+      quiet = quiet;
       core-is = ap (λ (x : Decision). x .core) d;
       page-is =
           ap (λ (n : ℕ). record { page = q; changed = n }) (sym (or-zero-r m))
@@ -215,7 +203,7 @@ moves-by c p q b m u e k quiet single d el A =
 -- CR
 pub return-moves : (c : Core) (p : List ℕ) (b : ℕ) → Direct c p → b ≡ 0x0D → Moves c p b (toColumn (c .cursor) (leftStop c)) 0 p
 return-moves c p b D e =
-    moves-by c p p b 0 _ Keep (D .paged) (control-silent c b (D .direct) (omega arith)) (control-single c b (D .direct) (omega arith))
+    moves-by c p p b 0 _ Keep (D .paged) (control-quiet c b (D .direct) (omega arith))
     (return-decides c (D .direct) ∙ ap (decided c) (sym e)) refl
     (record { page = sym (keep-applied (c .rows) p (D .paged .size)); marked = sym (changed-none (c .rows) p) })
 
@@ -223,7 +211,7 @@ return-moves c p b D e =
 pub line-moves : (c : Core) (p q : List ℕ) (b m : ℕ) → Direct c p → between 0x0A b 0x0C ≡ true → length q ≡ length p
     → Applied (c .rows) (indexEdit (c .margins) (stopsOf c) (lineStart c)) p q m → Moves c p b (index (lineStart c) (c .margins .bottom) (c .rows)) m q
 line-moves c p q b m D e el A =
-    moves-by c p q b m _ _ (D .paged) (control-silent c b (D .direct) (line-low b e)) (control-single c b (D .direct) (line-low b e))
+    moves-by c p q b m _ _ (D .paged) (control-quiet c b (D .direct) (line-low b e))
     (line-decides c b (D .direct) e) el A
 
 -- a character: its cell is on the page
@@ -233,5 +221,5 @@ put-moves c p q b w m D char wrap e E =
     let bounds = D .paged .whole .parts .bounds in
     let edit : ℕ → Edit = λ (x : ℕ). Put (c .cursor .row - 1) (c .cursor .column - 1) x in
     let fits : Fits (c .rows) (edit (glyph c b)) p = record { long = D .paged .size; few = omega arith; within = (omega arith, omega arith) } in
-    moves-by c p q b m _ _ (D .paged) (put-silent c b (D .direct) char) (put-single c b (D .direct) char) (put-decides c b (D .direct) char wrap) (E .long)
+    moves-by c p q b m _ _ (D .paged) (put-quiet c b (D .direct) char) (put-decides c b (D .direct) char wrap) (E .long)
     (edited-applied fits (ap edit (sym e)) E)

@@ -176,3 +176,13 @@ pub ready-ran : (d : Screen) (bs : List ℕ) → ReadyAt d → ReadyAt (ran d bs
 unfolding ran
 ready-ran d [] k = k
 ready-ran d (b ∷ bs) k = ready-ran (stepped d b) bs (ready-step d b k)
+
+pub ran-long : (d : Screen) (bs : List ℕ) → ReadyAt d → length (ran d bs .buffers .page) ≡ length (d .buffers .page)
+unfolding ran
+ran-long d [] k = refl
+ran-long d (b ∷ bs) k = ran-long (stepped d b) bs (ready-step d b k) ∙ step-long d b k
+
+pub line-ran : (d : Screen) (bs : List ℕ) → ReadyAt d → length (d .buffers .line) ≡ 80 → length (ran d bs .buffers .line) ≡ 80
+unfolding ran
+line-ran d [] k h = h
+line-ran d (b ∷ bs) k h = line-ran (stepped d b) bs (ready-step d b k) (line-long d b k h)

@@ -1,5 +1,4 @@
 // Characters and the ends of lines: they are done at once, as long as nothing but the cursor moves.
-use crate::Tracked;
 use core::Core;
 use core::geometry::left_stop;
 use core::geometry::right_stop;
@@ -19,13 +18,13 @@ ghost use lib.ListN.{length};
 ghost use Rattle.ground.specs.Tests as tests;
 ghost use Rattle.device.specs.Cursor.{toColumn};
 ghost use Rattle.core.specs.Effects.{withCursor};
-ghost use Rattle.steps.specs.Ready.{PageReady};
-ghost use Rattle.steps.specs.Spans.{isCharacter, isUnshifted, printsDirectly, Direct, Moves, SpannedBeside};
+ghost use Rattle.steps.specs.Ready.{Paged};
+ghost use Rattle.steps.specs.Spans.{isCharacter, isUnshifted, printsDirectly, Direct, Moves, Spanned};
 
-// Where the cursor went, what is tracked, and the place of the next byte.
+// Where the cursor went, the changed rows, and the place of the next byte.
 pub struct Characters {
     pub cursor: Cursor,
-    pub tracked: Tracked,
+    pub changed: u64,
     pub next: usize,
 }
 
@@ -106,12 +105,12 @@ fn line_feed(core: Core, cursor: Cursor, byte: u8, page: &mut [u16]) -> Moved
 
 // ---- as many as there are
 
-fn stopped(cursor: Cursor, tracked: Tracked, next: usize) -> Characters
-    ensures { λ r. ⌜ r ≡ record { cursor = cursor; tracked = tracked; next = next } ⌝ }
+fn stopped(cursor: Cursor, changed: u64, next: usize) -> Characters
+    ensures { λ r. ⌜ r ≡ record { cursor = cursor; changed = changed; next = next } ⌝ }
 {
     Characters {
         cursor,
-        tracked,
+        changed,
         next,
     }
 }
@@ -119,23 +118,23 @@ fn stopped(cursor: Cursor, tracked: Tracked, next: usize) -> Characters
 // Characters, CR and LF, VT, FF, until another byte comes or a wrap is due.
 fn print_directly(
     core: Core,
-    tracked: Tracked,
+    changed: u64,
     page: &mut [u16],
     input: &[u8],
     from: usize,
 ) -> Characters
-    requires { ⌜ PageReady core tracked (now page) × (from ≤ length (now input)) × (printsDirectly core ≡ true) ⌝ }
-    ensures { λ r. ⌜ SpannedBeside false core tracked (now (page .entry)) (now (input .entry)) from (r .next) (withCursor core (r .cursor)) (r .tracked) (now (page .exit)) ⌝ }
+    requires { ⌜ Paged core (now page) × (from ≤ length (now input)) × (printsDirectly core ≡ true) ⌝ }
+    ensures { λ r. ⌜ Spanned core changed (now (page .entry)) (now (input .entry)) from (r .next) (withCursor core (r .cursor)) (r .changed) (now (page .exit)) ⌝ }
 {
     let mut cursor = core.cursor;
-    let mut tracked = tracked;
+    let mut changed = changed;
     let mut i = from;
     while i < input.len() {
         let byte = input[i];
         if is_character(byte) & !cursor.wrap {
             let done = put_character(core, cursor, byte, page);
             cursor = done.cursor;
-            tracked = tracked.note(done.changed, false);
+            changed |= done.changed;
             i += 1;
         } else if byte == 0x0D {
             cursor = cursor.to_column(left_stop(core));
@@ -143,30 +142,29 @@ fn print_directly(
         } else if between(0x0A, byte, 0x0C) {
             let done = line_feed(core, cursor, byte, page);
             cursor = done.cursor;
-            tracked = tracked.note(done.changed, false);
+            changed |= done.changed;
             i += 1;
         } else {
-            return stopped(cursor, tracked, i);
+            return stopped(cursor, changed, i);
         }
     }
-    stopped(cursor, tracked, i)
+    stopped(cursor, changed, i)
 }
 
-// As many as there are from here on, unless the line is active.
+// As many as there are from here on.
 pub fn print_characters(
     core: Core,
-    aside: bool,
-    tracked: Tracked,
+    changed: u64,
     page: &mut [u16],
     input: &[u8],
     from: usize,
 ) -> Characters
-    requires { ⌜ PageReady core tracked (now page) × (from ≤ length (now input)) ⌝ }
-    ensures { λ r. ⌜ SpannedBeside aside core tracked (now (page .entry)) (now (input .entry)) from (r .next) (withCursor core (r .cursor)) (r .tracked) (now (page .exit)) ⌝ }
+    requires { ⌜ Paged core (now page) × (from ≤ length (now input)) ⌝ }
+    ensures { λ r. ⌜ Spanned core changed (now (page .entry)) (now (input .entry)) from (r .next) (withCursor core (r .cursor)) (r .changed) (now (page .exit)) ⌝ }
 {
-    if prints_directly(core) & !aside {
-        return print_directly(core, tracked, page, input, from);
+    if prints_directly(core) {
+        return print_directly(core, changed, page, input, from);
     }
     let cursor = core.cursor;
-    stopped(cursor, tracked, from)
+    stopped(cursor, changed, from)
 }

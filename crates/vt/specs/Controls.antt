@@ -1,7 +1,7 @@
 -- The controls: below 20 and 80 to 9F (SCOPE 5.2 to 5.12). Wrap due is in WrapDue.antt.
-use mathlib.Core.Bool.{cond}
+use mathlib.Core.Bool.{cond, _&&_}
 use Prim.Native.Nat.{ℕ, _-_}
-use lib.Dec.{eqb}
+use lib.Dec.{eqb, ltb}
 use Rattle.page.specs.declared.Edit.{Edit}
 use Rattle.page.specs.declared.Edit.the-variants.{Keep, ScrollDown}
 use Rattle.device.specs.declared.charsets.Register.the-variants.{G0, G1}
@@ -35,9 +35,9 @@ nextLined c = indexFrom c (toColumn (c .cursor) (leftStop c))
 abbrev pub lineFed : Core → Decision
 lineFed c = cond (c .modes .newline) (nextLined c) (indexed c)
 
--- RI at the top margin: rows T to B scroll down
+-- RI at the top margin: rows T to B scroll down, if there are two or more
 abbrev pub reverseIndexEdit : Margins → Stops → Cursor → Edit
-reverseIndexEdit m g u = cond (eqb (u .row) (m .top)) (ScrollDown (m .top - 1) (m .bottom) (g .left - 1) (g .right) 1) Keep
+reverseIndexEdit m g u = cond (eqb (u .row) (m .top) && ltb (m .top) (m .bottom)) (ScrollDown (m .top - 1) (m .bottom) (g .left - 1) (g .right) 1) Keep
 
 abbrev pub reverseIndexed : Core → Decision
 reverseIndexed c = oneEdit (withCursor c (reverseIndex (c .cursor) (c .margins .top))) (reverseIndexEdit (c .margins) (stopsOf c) (c .cursor))

@@ -1,7 +1,7 @@
 -- Printing (SCOPE 4).
-use mathlib.Core.Bool.{Bool, cond}
+use mathlib.Core.Bool.{Bool, cond, _&&_}
 use Prim.Native.Nat.{ℕ, _-_}
-use lib.Dec.{eqb}
+use lib.Dec.{eqb, ltb}
 use Rattle.cells.specs.declared.CharSet.the-variants.{Ascii}
 use Rattle.page.specs.declared.Edit.{Edit}
 use Rattle.page.specs.declared.Edit.the-variants.{Keep, Put, InsertCells, ScrollUp}
@@ -20,9 +20,9 @@ use Rattle.core.specs.Effects.{withCursor, withShift, unedited}
 
 -- ---- the edits
 
--- IND at the bottom margin: rows T to B scroll up
+-- IND at the bottom margin: rows T to B scroll up, if there are two or more; one row never scrolls
 abbrev pub indexEdit : Margins → Stops → Cursor → Edit
-indexEdit m g u = cond (eqb (u .row) (m .bottom)) (ScrollUp (m .top - 1) (m .bottom) (g .left - 1) (g .right) 1) Keep
+indexEdit m g u = cond (eqb (u .row) (m .bottom) && ltb (m .top) (m .bottom)) (ScrollUp (m .top - 1) (m .bottom) (g .left - 1) (g .right) 1) Keep
 
 -- the cell is put; in insert mode the cells from the cursor move right one and the last is lost
 abbrev pub putEdit : Bool → Stops → Cursor → ℕ → Edit

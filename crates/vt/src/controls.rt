@@ -64,12 +64,12 @@ fn line_feed(core: Core) -> Decision
     index(core)
 }
 
-// RI at the top margin: rows T to B scroll down.
+// RI at the top margin: rows T to B scroll down, if there are two or more.
 fn reverse_index_edit(margins: Margins, stops: Stops, cursor: Cursor) -> Edit
     requires { ⌜ (1 ≤ margins .top) × (1 ≤ stops .left) ⌝ }
     ensures { λ r. ⌜ r ≡ controls.reverseIndexEdit margins stops cursor ⌝ }
 {
-    if cursor.row == margins.top {
+    if (cursor.row == margins.top) & (margins.top < margins.bottom) {
         return Edit::ScrollDown {
             top: margins.top - 1,
             end: margins.bottom,

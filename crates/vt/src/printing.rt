@@ -21,12 +21,12 @@ ghost use Rattle.vt.specs.Printing as printing;
 
 // ---- the edits
 
-// IND at the bottom margin: rows T to B scroll up.
+// IND at the bottom margin: rows T to B scroll up, if there are two or more.
 pub fn index_edit(margins: Margins, stops: Stops, cursor: Cursor) -> Edit
     requires { ⌜ (1 ≤ margins .top) × (1 ≤ stops .left) ⌝ }
     ensures { λ r. ⌜ r ≡ printing.indexEdit margins stops cursor ⌝ }
 {
-    if cursor.row == margins.bottom {
+    if (cursor.row == margins.bottom) & (margins.top < margins.bottom) {
         return Edit::ScrollUp {
             top: margins.top - 1,
             end: margins.bottom,

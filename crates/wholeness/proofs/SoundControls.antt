@@ -1,8 +1,8 @@
 -- The controls keep a core whole, and their edits stay on the page.
 use mathlib.Core.Path.{_≡_, refl}
-use mathlib.Core.Bool.{Bool, false}
+use mathlib.Core.Bool.{Bool, false, _&&_}
 use Prim.Native.Nat.{ℕ, _-_}
-use lib.Dec.{eqb}
+use lib.Dec.{eqb, ltb}
 use Rattle.page.specs.declared.Edit.{Edit}
 use Rattle.page.specs.Edits.{Within}
 use Rattle.device.specs.declared.cursor.Cursor.{Cursor}
@@ -35,7 +35,7 @@ module _ (c : Core) (t : Bool) (p : Parts c) where
   good-reverse-indexed : Good (c .rows) t (reverseIndexed c)
   good-reverse-indexed =
       good-moved (reverseIndex (c .cursor) (c .margins .top)) _ refl (fine-reverse-index c p)
-      (either (Within (c .rows)) (eqb (c .cursor .row) (c .margins .top)) (λ e. margins-fit c p) (λ e. tt))
+      (either (Within (c .rows)) (eqb (c .cursor .row) (c .margins .top) && ltb (c .margins .top) (c .margins .bottom)) (λ e. margins-fit c p) (λ e. tt))
 
   -- tabs, sets and a shift are no part of wholeness
   module _ (h : WrapOf c) where

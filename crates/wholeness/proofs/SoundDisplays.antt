@@ -6,11 +6,7 @@ use native.Mathlib.Omega.{arith}
 use lib.Dec.{eqb, leb}
 use lib.ListN.{length}
 use borrow.Author.Tests.{eqb-true}
-use Rattle.page.specs.declared.Edit.{Edit}
-use Rattle.page.specs.declared.Edit.the-variants.{Keep, Put, InsertCells, DeleteCells, ScrollUp, ScrollDown}
-use Rattle.page.specs.declared.Edit.the-variants.{FillRange, ChangeRange, FillRectangle, ChangeRectangle, CopyRectangle}
 use Rattle.page.specs.Edits.{Within}
-use Rattle.parser.specs.declared.params.Params.{Params}
 use Rattle.parser.specs.declared.parser.Action.{Action}
 use Rattle.parser.specs.declared.parser.Action.the-variants.{Nothing, Character, Substitute, Control, C1Control, EscapeSequence, ControlSequence}
 use Rattle.parser.specs.Params.{param}
@@ -20,7 +16,7 @@ use Rattle.core.specs.declared.Core.{Core}
 use Rattle.core.specs.declared.StatusLine.{StatusLine}
 use Rattle.core.specs.declared.Displays.{Displays}
 use Rattle.core.specs.Effects.{withParser}
-use Rattle.core.specs.StatusLine.{lineView, pageBehind, lineBehind, lineBeside, freshLine, still}
+use Rattle.core.specs.StatusLine.{lineView, pageBehind, lineBehind, lineBeside, freshLine}
 use Rattle.core.specs.Whole.{Whole, WholeLine, WholeDisplays}
 use Rattle.dispatch.specs.Decide.{executed}
 use Rattle.dispatch.specs.Displays.{typeSelected, displaySelected, lineRenewed, resetsAll, isFullReset, lineTold}
@@ -56,19 +52,6 @@ unfolding sendsOf
 sends-few k w b = sends-short (active k) (active-whole k w) b
 
 -- ---- the line after an action
-
-still-within : (n : ℕ) (e : Edit) → Within n e → Within n (still e)
-still-within n Keep w = tt
-still-within n (Put row column word) w = w
-still-within n (InsertCells row column end count word) w = w
-still-within n (DeleteCells row column end count) w = w
-still-within n (ScrollUp top end left right count) w = tt
-still-within n (ScrollDown top end left right count) w = tt
-still-within n (FillRange from to word) w = w
-still-within n (ChangeRange from to change) w = w
-still-within n (FillRectangle top end left right word) w = w
-still-within n (ChangeRectangle top end left right change) w = w
-still-within n (CopyRectangle a b c d i j) w = w
 
 pub fresh-line : (autowrap : Bool) → WholeLine freshLine autowrap
 fresh-line autowrap = record {
@@ -124,17 +107,17 @@ module _ (l : StatusLine) (on : Bool) (m : WholeLine l on) where
         typed = λ h. absurd (false≢true h);
       }
 
-  told-whole : (a : Action) (q : Params) → WholeLine (lineTold a q l) on
-  told-whole Nothing q = m
-  told-whole (Character b) q = m
-  told-whole Substitute q = m
-  told-whole (Control b) q = m
-  told-whole (C1Control b) q = m
-  told-whole (EscapeSequence first second last) q = told-either (isFullReset first last) (λ _. fresh-line on) (λ _. m)
-  told-whole (ControlSequence mark first second last) q =
+  told-whole : (a : Action) (n : ℕ) → WholeLine (lineTold a n l) on
+  told-whole Nothing n = m
+  told-whole (Character b) n = m
+  told-whole Substitute n = m
+  told-whole (Control b) n = m
+  told-whole (C1Control b) n = m
+  told-whole (EscapeSequence first second last) n = told-either (isFullReset first last) (λ _. fresh-line on) (λ _. m)
+  told-whole (ControlSequence mark first second last) n =
       told-either (isSoftReset mark first second last) (λ _. renewed-whole)
       (λ _. told-either (isDollar mark first second)
-      (λ _. told-either (eqb last 0x7E) (λ _. type-whole (param q 0)) (λ _. told-either (eqb last 0x7D) (λ _. display-whole (param q 0)) (λ _. m)))
+      (λ _. told-either (eqb last 0x7E) (λ _. type-whole n) (λ _. told-either (eqb last 0x7D) (λ _. display-whole n) (λ _. m)))
       (λ _. m))
 
 -- beside an action on the page: its wrap due lasts while autowrap is on
@@ -157,7 +140,7 @@ unfolding lineView
 line-within k a w =
     let d = executed (lineView (k .core) (k .line)) a in
     let s : Sound 1 d = executed-sound (lineView (k .core) (k .line)) a (view-whole k w) in
-    (still-within 1 (d .first) (s .first), still-within 1 (d .second) (s .second))
+    (s .first, s .second)
 
 -- core and line are whole, with as many rows; the edits of the page stay on it, those of the line on the line
 pub record SoundCarried (r : ℕ) (x : Carried) : Type 0 where
@@ -193,7 +176,7 @@ module _ (c : Core) (l : StatusLine) (a : Action) (w : WholeDisplays (record { c
                 saved-wrap = p .saved .wrap;
                 typed = w .line .typed;
               })
-              a (c .parser .params);
+              a (param (c .parser .params) 0);
         };
         page-first = tt;
         page-second = tt;
@@ -208,7 +191,7 @@ module _ (c : Core) (l : StatusLine) (a : Action) (w : WholeDisplays (record { c
         rows = s .rows;
         whole = record {
           core = s .whole;
-          line = told-whole (lineBeside l on) on (beside-whole l (c .modes .autowrap) on (w .line)) a (c .parser .params);
+          line = told-whole (lineBeside l on) on (beside-whole l (c .modes .autowrap) on (w .line)) a (param (c .parser .params) 0);
         };
         page-first = s .first;
         page-second = s .second;

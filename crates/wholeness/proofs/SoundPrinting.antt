@@ -1,9 +1,9 @@
 -- Printing keeps a core whole, and its edits stay on the page.
 use mathlib.Core.Path.{refl}
-use mathlib.Core.Bool.{Bool}
+use mathlib.Core.Bool.{Bool, _&&_}
 use Prim.Native.Nat.{ℕ, _-_, _%_}
 use native.Mathlib.Omega.{arith}
-use lib.Dec.{eqb}
+use lib.Dec.{eqb, ltb}
 use Rattle.cells.specs.declared.CharSet.the-variants.{Ascii}
 use Rattle.page.specs.declared.Edit.{Edit}
 use Rattle.page.specs.Edits.{Within, RowsFit}
@@ -26,7 +26,7 @@ pub margins-fit : (c : Core) → Parts c → RowsFit (c .rows) (c .margins .top 
 margins-fit c p = omega arith
 
 pub index-within : (c : Core) (u : Cursor) → Parts c → Within (c .rows) (indexEdit (c .margins) (stopsOf c) u)
-index-within c u p = either (Within (c .rows)) (eqb (u .row) (c .margins .bottom)) (λ e. margins-fit c p) (λ e. tt)
+index-within c u p = either (Within (c .rows)) (eqb (u .row) (c .margins .bottom) && ltb (c .margins .top) (c .margins .bottom)) (λ e. margins-fit c p) (λ e. tt)
 
 put-within : (c : Core) (u : Cursor) (w : ℕ) → Fine c u → Within (c .rows) (putEdit (c .modes .insert) (stopsOf c) u w)
 put-within c u w f =

@@ -10,7 +10,7 @@ pub poke-tracked-spec : {M : Type 1} → statement M
 unfolding pokedTracked
 poke-tracked-spec =
     tie.close (tie.spec
-    (λ c. search needs) (λ c. search needs) (λ c κs. search needs) (λ c κs. search needs)
-    (λ c. simp (c .before .before .match .keys1) (rw (c .note .ensures, c .before .row-bit .ensures, one-mul)))
+    (λ c. search needs) (λ c. search needs) (λ c κs. search needs)
+    (λ c. simp (c .before .before .match .keys1) (rw (c .before .row-bit .ensures, one-mul)))
     (λ c. simp (c .match .keys2))
     (λ c. rw (ne-eqb _ _ (c .match .rest .0 .1), ne-eqb _ _ (c .match .rest .1))))

@@ -1,54 +1,70 @@
--- What is decoded is carried out on page or line, as the definition has it.
+-- What is decoded is executed, and its edits are those of the definition.
+use mathlib.Core.Path.{_≡_, ap, _∙_}
+use native.Mathlib.Omega.{arith}
+use Prim.Native.Nat.{ℕ}
 use borrow.Author.Needs.{needs}
+use Rattle.parser.specs.declared.parser.Decoded.{Decoded}
+use Rattle.parser.specs.Parser.{decode}
+use Rattle.core.specs.declared.Core.{Core}
+use Rattle.core.specs.declared.Decision.{Decision}
 use Rattle.core.specs.Effects.{withParser}
-use Rattle.core.specs.Whole.{WholeDisplays}
-use Rattle.wholeness.proofs.Sound.{read-whole}
-use Rattle.steps.specs.Steps.{buffers}
-use Rattle.steps.proofs.ByteLaws.{line-acted, page-acted}
+use Rattle.dispatch.specs.Decide.{executed, decided}
+use Rattle.wholeness.proofs.Sound.{decided-sound}
+use Rattle.steps.specs.Steps.{editedBy}
+use Rattle.steps.specs.OneDisplay.{editsOf}
+use Rattle.steps.proofs.ByteLaws.{edits-are}
 use Rattle.steps.proofs.byte.step.Statement.{statement}
 use Rattle.steps.proofs.byte.step.Tie as tie
 
--- core and line are whole once the parser took the byte
-taken-whole : (s : tie.Start) → WholeDisplays (record { core = withParser (s .args .core) (s .args .decoded .parser); line = s .args .line })
-taken-whole s =
-    record { core = rw (s .pre .1) (read-whole (s .args .core) (s .args .byte) (s .pre .0 .whole .core)); line = s .pre .0 .whole .line }
+decides : (c : Core) (b : ℕ) (d : Decoded) (x : Decision) → d ≡ decode (c .parser) b → x ≡ executed (withParser c (d .parser)) (d .action) → x ≡ decided c b
+unfolding decided
+decides c b d x ed ex = ex ∙ ap (λ (y : Decoded). executed (withParser c (y .parser)) (y .action)) ed
 
-step-on-line-requires : tie.Need-step-on-line-requires
-step-on-line-requires c κs =
-    let start = c .before .before .before .before .before .before .before in
-    (taken-whole start, start .pre .0 .line-size)
+is-decided : (d : tie.After-execute) → let start = d .before .before .before in d .execute .result ≡ decided (start .args .core) (start .args .byte)
+is-decided d =
+    let start = d .before .before .before in
+    decides (start .args .core) (start .args .byte) (start .args .decoded) (d .execute .result) (start .pre .1) (d .execute .ensures)
+
+apply-requires : tie.Need-apply-requires
+apply-requires c κs =
+    let d = c .before .before in
+    let start = d .before .before .before in
+    let w = start .pre .0 .whole in
+    record {
+      long = start .pre .0 .size;
+      few = omega (arith, w .parts .bounds .count .high);
+      within = rw (is-decided d) (decided-sound (start .args .core) (start .args .byte) w .first);
+    }
+
+apply-requires-2 : tie.Need-apply-requires-2
+apply-requires-2 c κs =
+    let a = c .before .before .before in
+    let d = a .before .before .before in
+    let start = d .before .before .before in
+    let w = start .pre .0 .whole in
+    record {
+      long = a .apply .kept .1 .0 ∙ start .pre .0 .size;
+      few = omega (arith, w .parts .bounds .count .high);
+      within = rw (is-decided d) (decided-sound (start .args .core) (start .args .byte) w .second);
+    }
 
 returns : tie.Need-returns
 returns c =
-    let s = c .before .before .before .before .before in
-    let yes = s .before .before in
-    let start = yes .before .before .before .before .before .before in
-    let a = start .args in
-    line-acted (a .core) (a .line) (buffers (a .page .now) (a .cells .now)) (a .byte) (a .decoded) (start .pre .1)
-    (rw (← yes .before .before .leaves-line .ensures) (yes .if1 .taken))
-    (record { core = s .step-on-line .result .core; line = s .step-on-line .result .line }) (s .step-on-line .ensures .0)
-    (record { page = s .step-on-line .last .1 .1 .1 .0; changed = s .step-on-line .result .changed }) (s .step-on-line .ensures .1)
-
-step-on-page-requires : tie.Need-step-on-page-requires
-step-on-page-requires c κs =
-    let start = c .before .before .before .before .before .before .before in
-    (taken-whole start, start .pre .0 .size)
-
-returns-2 : tie.Need-returns-2
-returns-2 c =
     let b = c .before .before in
-    let s = b .before .before .before .before .before .before in
-    let no = s .before .before in
-    let start = no .before .before .before .before .before .before in
-    let a = start .args in
-    page-acted (a .core) (a .line) (buffers (a .page .now) (a .cells .now)) (a .byte) (a .decoded) (start .pre .1)
-    (rw (← no .before .before .leaves-line .ensures) (no .if1 .left))
-    (record { core = s .step-on-page .result .core; line = s .step-on-page .result .line }) (s .step-on-page .ensures .0)
-    (record { page = s .step-on-page .last .1 .1 .1 .0; changed = s .step-on-page .result .changed }) (s .step-on-page .ensures .1)
-    (b .blank-line .last .1 .0) (b .blank-line .ensures .0) (b .blank-line .result) (b .blank-line .ensures .1)
+    let a = b .before .before .before .before in
+    let d = a .before .before .before in
+    let start = d .before .before .before in
+    let core = start .args .core in
+    let page = start .args .page .now in
+    let x = d .execute .result in
+    let is = is-decided d in
+    let s = decided-sound core (start .args .byte) (start .pre .0 .whole) in (
+      ap (λ (y : Decision). y .core) is,
+      edits-are (core .rows) (editsOf x) page (a .apply .last .1 .0) (b .apply2 .last .1 .0) (a .apply .result) (b .apply2 .result)
+          (start .pre .0 .size) (rw is (s .first)) (rw is (s .second))
+          (a .apply .ensures .page) (a .apply .ensures .marked) (b .apply2 .ensures .page) (b .apply2 .ensures .marked)
+          ∙ ap (λ (y : Decision). editedBy (core .rows) (editsOf y) page) is,
+    )
 
 pub step-spec : {M : Type 1} → statement M
-step-spec =
-    tie.close (tie.spec
-    (λ c κs. search needs) step-on-line-requires (λ c. search needs) returns step-on-page-requires (λ c κs. search needs) (λ c. search needs)
-    (λ c. search needs) returns-2)
+step-spec = tie.close (tie.spec (λ c κs. search needs) apply-requires apply-requires-2 (λ c. search needs) returns)

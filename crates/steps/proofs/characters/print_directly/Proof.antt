@@ -1,35 +1,33 @@
 -- The loop keeps `Spanned`: the characters and the ends of lines so far were done, and the cursor is where they left it.
 use mathlib.Core.Path.{refl, sym, _∙_}
-use mathlib.Core.Bool.{false, not}
+use mathlib.Core.Bool.{not}
 use Prim.Native.Nat.{_-_}
 use native.Mathlib.Omega.{arith}
+use lib.Bits.{or-zero-r}
 use lib.ListN.{length}
 use borrow.Author.Tests.{not-true}
 use borrow.Author.Needs.{needs}
 use Rattle.ground.proofs.TestLaws.{and-left, and-right}
 use Rattle.device.specs.Cursor.{toColumn}
 use Rattle.core.specs.Effects.{withCursor}
-use Rattle.core.specs.StatusLine.{freshLine}
-use Rattle.wholeness.proofs.SoundDisplays.{fresh-line}
-use Rattle.steps.specs.Spans.{SpannedBeside, Direct}
-use Rattle.steps.proofs.ByteLaws.{ready-paged, ready-beside}
-use Rattle.steps.proofs.SpannedLaws.{spanned-none, spanned-moves, noted-none}
+use Rattle.steps.specs.Spans.{Spanned, Direct}
+use Rattle.steps.proofs.SpannedLaws.{spanned-none, spanned-moves}
 use Rattle.steps.proofs.CharacterLaws.{return-moves}
 use Rattle.steps.proofs.characters.print_directly.Statement.{statement}
 use Rattle.steps.proofs.characters.print_directly.Tie as tie
 
 abbrev Inv-loop : tie.InvT-loop
-Inv-loop core page₀ input from cursor₀ tracked₀ i₀ page cursor tracked i =
-    SpannedBeside false core tracked₀ page₀ input from i (withCursor core cursor) tracked page
+Inv-loop core rows page₀ input from cursor₀ changed₀ i₀ page cursor changed i =
+    Spanned core changed₀ page₀ input from i (withCursor core cursor) changed page
 
 abbrev μ-loop : tie.MeasureT-loop
-μ-loop core page₀ input from cursor₀ tracked₀ i₀ page cursor tracked i = length input - i
+μ-loop core rows page₀ input from cursor₀ changed₀ i₀ page cursor changed i = length input - i
 
 -- characters are just put at the loop's head
 direct : (l : tie.At-loop Inv-loop μ-loop) → Direct (withCursor (l .before .before .before .before .args .core) (l .loop .cursor)) (l .loop .page)
 direct l = record {
   direct = l .before .before .before .before .pre .2;
-  paged = ready-paged _ _ (l .loop .inv freshLine refl (fresh-line _) .ready);
+  paged = l .loop .inv .paged;
 }
 
 -- a character
@@ -54,8 +52,8 @@ loop-again : tie.Need-loop-again Inv-loop μ-loop
 loop-again c =
     let put = c .before .before .before .before in
     let t = put .before .before .before .before .before .before in
-    λ n off w. spanned-moves (t .before .loop .inv n off w) (t .loop-test .taken) _ refl off (put .put-character .result .cursor)
-    (put .put-character .result .changed) (put .put-character .last .1 .1 .1 .0) (put .put-character .ensures) (c .note .result) (c .note .ensures)
+    spanned-moves (t .before .loop .inv) (t .loop-test .taken) _ refl (put .put-character .result .cursor)
+    (put .put-character .result .changed) (put .put-character .last .1 .1 .1 .0) (put .put-character .ensures) _ refl
 
 -- CR
 
@@ -66,8 +64,8 @@ loop-again-2 c =
     let t = yes .before .before .before .before .before in
     let l = t .before in
     rw (c .to-column .ensures, stop .left-stop .ensures)
-    (λ n off w. spanned-moves (l .loop .inv n off w) (t .loop-test .taken) _ refl off (toColumn (l .loop .cursor) 1) 0 (l .loop .page)
-    (return-moves _ _ _ (direct l) (yes .if2 .taken)) (l .loop .tracked) (noted-none (l .loop .tracked)))
+    (spanned-moves (l .loop .inv) (t .loop-test .taken) _ refl (toColumn (l .loop .cursor) 1) 0 (l .loop .page)
+    (return-moves _ _ _ (direct l) (yes .if2 .taken)) (l .loop .changed) (sym (or-zero-r (l .loop .changed))))
 
 -- LF, VT, FF
 
@@ -86,18 +84,18 @@ loop-again-3 : tie.Need-loop-again-3 Inv-loop μ-loop
 loop-again-3 c =
     let feed = c .before .before .before .before in
     let t = feed .before .before .before .before .before .before .before .before .before in
-    λ n off w. spanned-moves (t .before .loop .inv n off w) (t .loop-test .taken) _ refl off (feed .line-feed .result .cursor)
-    (feed .line-feed .result .changed) (feed .line-feed .last .1 .1 .1 .0) (feed .line-feed .ensures) (c .note2 .result) (c .note2 .ensures)
+    spanned-moves (t .before .loop .inv) (t .loop-test .taken) _ refl (feed .line-feed .result .cursor)
+    (feed .line-feed .result .changed) (feed .line-feed .last .1 .1 .1 .0) (feed .line-feed .ensures) _ refl
 
 pub print-directly-spec : {M : Type 1} → statement M
 print-directly-spec =
     tie.close (tie.spec
     Inv-loop μ-loop
-    (λ c n off w. spanned-none _ _ _ _ (ready-beside _ n _ _ (c .before .before .before .pre .0) w) (c .before .before .before .pre .1))
-    (λ c. search needs) (λ c κs. search needs) put-character-requires (λ c κs. search needs) add-i (λ c. search needs) loop-again (λ c κs. search needs)
-    (λ c κs. search needs) (λ c. search needs) (λ c. search needs) loop-again-2 (λ c κs. search needs) line-feed-requires (λ c κs. search needs) add-i-3
+    (λ c. spanned-none _ _ _ _ _ (c .before .before .before .pre .0) (c .before .before .before .pre .1))
+    (λ c. search needs) (λ c κs. search needs) put-character-requires add-i (λ c. search needs) loop-again (λ c κs. search needs)
+    (λ c κs. search needs) (λ c. search needs) (λ c. search needs) loop-again-2 (λ c κs. search needs) line-feed-requires add-i-3
     (λ c. search needs) loop-again-3 (λ c κs. search needs)
-    (λ c. c .before .before .before .before .before .before .before .before .before .loop .inv freshLine refl (fresh-line _) .long)
+    (λ c. c .before .before .before .before .before .before .before .before .before .loop .inv .long)
     (λ c. rw (c .stopped .ensures) (c .before .before .before .before .before .before .before .before .before .loop .inv))
-    (λ c κs. search needs) (λ c. c .before .before .loop .inv freshLine refl (fresh-line _) .long)
+    (λ c κs. search needs) (λ c. c .before .before .loop .inv .long)
     (λ c. rw (c .stopped2 .ensures) (c .before .before .loop .inv)))

@@ -5,12 +5,12 @@ use native.Mathlib.Omega.{arith}
 use lib.Dec.{eqb}
 use Rattle.cells.specs.Cells.{blank}
 use Rattle.page.specs.declared.Edit.the-variants.{FillRange}
 use Rattle.steps.specs.Steps.{Marked}
 use Rattle.steps.proofs.ByteLaws.{first-is}
 use borrow.Author.Needs.{needs}
 use Rattle.ground.proofs.Cases.{told}
-use Rattle.steps.proofs.byte.blank_line.Statement.{statement}
-use Rattle.steps.proofs.byte.blank_line.Tie as tie
+use Rattle.feeding.proofs.bytes.blank_line.Statement.{statement}
+use Rattle.feeding.proofs.bytes.blank_line.Tie as tie
 
 returns : tie.Need-returns
 returns c =
