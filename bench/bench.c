@@ -1,11 +1,11 @@
 /*
- * Measures the library beside Debian's libvterm, in one run.
+ * Measures the library beside Debian's libvterm and alacritty_terminal, in one run.
  *
  *     bench [--bytes N] [--rounds N] [--seed N]        the tables
- *     bench --only ours|libvterm --stream NAME --bytes N [--seed N]
+ *     bench --only NAME --stream NAME --bytes N [--chunk N] [--rows N] [--seed N]
  *
- * The second form feeds the first N bytes of a stream once, for a tool that counts instructions. It makes as
- * much of the stream whatever N is, so that a run with 0 bytes costs all but the feeding.
+ * The second form feeds the first N bytes of a stream once to one of the three (ours, libvterm, alacritty), for a tool
+ * that counts the instructions of feed_chunks.
  */
 #define _POSIX_C_SOURCE 199309L
 #include "pankholim.h"
@@ -17,33 +17,24 @@
 #include <string.h>
 #include <time.h>
 
-enum { MAX_ROUNDS = 99, ONLY_BYTES = 1 << 20 };
+enum { MAX_ROUNDS = 99, MEMORY_BYTES = 1 << 20 };
+
+static const struct reader *const readers[READERS] = { &ours, &libvterm, &alacritty };
 
 static struct options {
-    size_t bytes;
+    size_t bytes, chunk, rows;
     unsigned rounds;
     uint64_t seed;
-    const char *only;
-    const char *stream;
-} options = { 8 << 20, 7, 1, NULL, NULL };
+    const char *only, *stream;
+} options = { 8 << 20, CHUNK, ROWS, 7, 1, NULL, NULL };
 
-static double read_clock(clockid_t clock)
+/* Nanoseconds: cheaper to read than the processor's time, for short times. */
+static double now(void)
 {
     struct timespec time;
 
-    clock_gettime(clock, &time);
+    clock_gettime(CLOCK_MONOTONIC, &time);
     return 1e9 * (double)time.tv_sec + (double)time.tv_nsec;
-}
-
-double processor_time(void)
-{
-    return read_clock(CLOCK_PROCESS_CPUTIME_ID);
-}
-
-/* Cheaper to read, for short times. */
-static double now(void)
-{
-    return read_clock(CLOCK_MONOTONIC);
 }
 
 /* ---- times of several rounds */
@@ -86,29 +77,29 @@ static double rate(double nanoseconds)
     return 1e3 * (double)options.bytes / nanoseconds;
 }
 
-/* Of all that the last round gave. */
-static unsigned long long checksum(const struct outcome *mine, const struct outcome *theirs)
-{
-    return (mine->changed + mine->replied) * 31 + theirs->changed + theirs->replied;
-}
-
 /* Measures a stream. Are the pages the same, where they must be? */
 static int measure(const struct stream *stream, const uint8_t *bytes)
 {
-    static struct outcome mine, theirs;
-    struct times my, their;
-    int same;
+    static struct outcome outcomes[READERS];
+    struct times times[READERS];
+    unsigned long long checksum = 0;
+    int same = 1;
+    unsigned round, i;
 
-    for (my.rounds = their.rounds = 0; my.rounds < options.rounds;) {
-        my.all[my.rounds++] = ours.feed(bytes, options.bytes, &mine);
-        their.all[their.rounds++] = libvterm.feed(bytes, options.bytes, &theirs);
+    for (round = 0; round < options.rounds; round++)
+        for (i = 0; i < READERS; i++)
+            times[i].all[round] = feed_stream(readers[i], ROWS, bytes, options.bytes, CHUNK, &outcomes[i]);
+    printf("%-8s", stream->name);
+    for (i = 0; i < READERS; i++) {
+        times[i].rounds = options.rounds;
+        sort_times(&times[i]);
+        same &= memcmp(outcomes[0].page, outcomes[i].page, sizeof outcomes[0].page) == 0;
+        checksum = checksum * 31 + outcomes[i].changed + outcomes[i].replied;
+        printf(" %8.1f %8.1f", rate(best(&times[i])), rate(median(&times[i])));
     }
-    sort_times(&my);
-    sort_times(&their);
-    same = memcmp(mine.page, theirs.page, sizeof mine.page) == 0;
-    printf("%-8s %9.1f %9.1f %11.1f %9.1f %9.2f   %-4s %016llx\n", stream->name, rate(best(&my)), rate(median(&my)),
-           rate(best(&their)), rate(median(&their)), median(&their) / median(&my), !stream->same_everywhere ? "-" : same ? "yes" : "no",
-           checksum(&mine, &theirs));
+    for (i = 1; i < READERS; i++)
+        printf(" %9.2f", median(&times[i]) / median(&times[0]));
+    printf("   %-4s %016llx\n", !stream->same_everywhere ? "-" : same ? "yes" : "no", checksum);
     fflush(stdout);
     return same || !stream->same_everywhere;
 }
@@ -118,10 +109,13 @@ static int measure_streams(uint8_t *bytes)
     int same = 1;
     size_t i;
 
-    printf("Streams of %.1f million bytes in chunks of %d, %u rounds of each in turn; millions of bytes in a\nsecond of processor time\n\n",
+    printf("Streams of %.1f million bytes in chunks of %d, %u rounds of each in turn; millions of bytes in a\n"
+           "second of processor time\n\n",
            (double)options.bytes / 1e6, CHUNK, options.rounds);
-    printf("%-8s %9s %9s %11s %9s %9s   %-4s %s\n", "stream", "ours", "", "libvterm", "", "ours to", "same", "checksum");
-    printf("%-8s %9s %9s %11s %9s %9s   %-4s\n", "", "best", "median", "best", "median", "libvterm", "page");
+    printf("%-8s %8s %8s %8s %8s %9s %7s %9s %9s   %-4s %s\n", "stream", "ours", "", "libvterm", "", "alacritty", "",
+           "ours to", "ours to", "same", "checksum");
+    printf("%-8s %8s %8s %8s %8s %8s %8s %9s %9s   %-4s\n", "", "best", "median", "best", "median", "best", "median",
+           "libvterm", "alacritty", "page");
     for (i = 0; i < STREAMS; i++) {
         make_stream(&streams[i], options.seed, bytes, options.bytes);
         same &= measure(&streams[i], bytes);
@@ -323,7 +317,8 @@ static void measure_rectangles(void)
 {
     size_t i;
 
-    printf("One fill and one copy of the whole page (a copy: of all rows but one), nanoseconds (median of %u rounds of\n%d times %d); the ratios: without and with the reading of the sequence\n\n",
+    printf("One fill and one copy of the whole page (a copy: of all rows but one), nanoseconds (median of %u rounds of\n"
+           "%d times %d); the ratios: without and with the reading of the sequence\n\n",
            options.rounds, TIMINGS, SCROLLS);
     printf("%-8s %9s %9s %9s %9s %9s\n", "", "page", "one cell", "peer", "the page", "all");
     for (i = 0; i < sizeof rectangles / sizeof rectangles[0]; i++)
@@ -333,31 +328,44 @@ static void measure_rectangles(void)
 
 /* ---- memory */
 
-static void measure_memory(uint8_t *bytes)
+/* Bytes and pieces that a terminal has as started, and the most bytes that it has after a stream. */
+static void measure_memory_of(const struct reader *reader, uint8_t *bytes, size_t length)
 {
-    size_t length = options.bytes < ONLY_BYTES ? options.bytes : ONLY_BYTES;
-    struct memory theirs;
+    struct memory started, fed;
     size_t i, most = 0;
 
     for (i = 0; i < STREAMS; i++) {
+        void *it = reader->start(ROWS);
+
+        reader->memory(it, &started);
         make_stream(&streams[i], options.seed, bytes, length);
-        libvterm_memory(bytes, length, &theirs);
-        most = theirs.fed > most ? theirs.fed : most;
+        feed_chunks(reader, it, bytes, length, CHUNK);
+        reader->memory(it, &fed);
+        most = fed.bytes > most ? fed.bytes : most;
+        reader->stop(it);
     }
+    printf("%-10s %7lu: as started, in %lu pieces; at most %lu after a stream\n", reader->name, (unsigned long)started.bytes,
+           (unsigned long)started.pieces, (unsigned long)most);
+}
+
+static void measure_memory(uint8_t *bytes)
+{
+    size_t length = options.bytes < MEMORY_BYTES ? options.bytes : MEMORY_BYTES;
+    size_t i;
+
     printf("Bytes for one terminal of %d by %d\n\n", ROWS, COLUMNS);
-    printf("ours      %6lu: a record of %lu, a page of %lu and a status line of %lu, whatever is fed\n",
+    printf("%-10s %7lu: a record of %lu, a page of %lu and a status line of %lu, whatever is fed\n", ours.name,
            (unsigned long)(sizeof terminal + sizeof page + sizeof line), (unsigned long)sizeof terminal,
            (unsigned long)sizeof page, (unsigned long)sizeof line);
-    printf("libvterm  %6lu: as started, in %lu pieces; at most %lu after a stream\n", (unsigned long)theirs.started,
-           (unsigned long)theirs.pieces, (unsigned long)most);
+    for (i = 1; i < READERS; i++)
+        measure_memory_of(readers[i], bytes, length);
 }
 
 /* ---- the two forms */
 
 static int tables(void)
 {
-    uint8_t *bytes = malloc(options.bytes > ONLY_BYTES ? options.bytes : ONLY_BYTES);
-
+    uint8_t *bytes = malloc(options.bytes);
     int same;
 
     if (bytes == NULL)
@@ -372,19 +380,22 @@ static int tables(void)
 
 static int only(void)
 {
-    static uint8_t bytes[ONLY_BYTES];
     static struct outcome outcome;
     const struct stream *stream = options.stream == NULL ? NULL : find_stream(options.stream);
-    const struct reader *reader = strcmp(options.only, "ours") == 0 ? &ours : &libvterm;
+    uint8_t *bytes = malloc(options.bytes);
+    size_t i;
 
-    if (stream == NULL || options.bytes > ONLY_BYTES) {
-        fprintf(stderr, "bench: --only needs the name of a stream and at most %d bytes\n", ONLY_BYTES);
+    for (i = 0; i < READERS && strcmp(readers[i]->name, options.only) != 0; i++)
+        ;
+    if (i == READERS || stream == NULL || bytes == NULL) {
+        fprintf(stderr, "bench: --only needs the name of a library and that of a stream\n");
         return 2;
     }
-    make_stream(stream, options.seed, bytes, ONLY_BYTES);
-    reader->feed(bytes, options.bytes, &outcome);
-    printf("%s %s %lu %016llx\n", reader->name, stream->name, (unsigned long)options.bytes,
+    make_stream(stream, options.seed, bytes, options.bytes);
+    feed_stream(readers[i], options.rows, bytes, options.bytes, options.chunk, &outcome);
+    printf("%s %s %lu %016llx\n", readers[i]->name, stream->name, (unsigned long)options.bytes,
            (unsigned long long)(outcome.changed ^ outcome.replied));
+    free(bytes);
     return 0;
 }
 
@@ -392,6 +403,10 @@ static int set_option(const char *name, const char *value)
 {
     if (strcmp(name, "--bytes") == 0)
         options.bytes = strtoul(value, NULL, 10);
+    else if (strcmp(name, "--chunk") == 0)
+        options.chunk = strtoul(value, NULL, 10);
+    else if (strcmp(name, "--rows") == 0)
+        options.rows = strtoul(value, NULL, 10);
     else if (strcmp(name, "--rounds") == 0)
         options.rounds = (unsigned)strtoul(value, NULL, 10);
     else if (strcmp(name, "--seed") == 0)
@@ -402,7 +417,8 @@ static int set_option(const char *name, const char *value)
         options.stream = value;
     else
         return 0;
-    return 1 <= options.rounds && options.rounds <= MAX_ROUNDS;
+    return 1 <= options.rounds && options.rounds <= MAX_ROUNDS && 1 <= options.bytes && 1 <= options.chunk &&
+           1 <= options.rows && options.rows <= MAX_ROWS;
 }
 
 int main(int argc, char **argv)
@@ -411,7 +427,7 @@ int main(int argc, char **argv)
 
     for (i = 1; i < argc; i += 2)
         if (i + 1 == argc || !set_option(argv[i], argv[i + 1])) {
-            fprintf(stderr, "usage: bench [--bytes N] [--rounds N] [--seed N] [--only ours|libvterm --stream NAME]\n");
+            fprintf(stderr, "usage: bench [--bytes N] [--rounds N] [--seed N] [--only NAME --stream NAME [--chunk N] [--rows N]]\n");
             return 2;
         }
     return options.only == NULL ? tables() : only();

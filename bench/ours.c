@@ -2,13 +2,25 @@
 #include "readers.h"
 
 #include <stdlib.h>
-#include <string.h>
 
-static pankholim_terminal terminal;
-static uint16_t page[PANKHOLIM_CELLS(ROWS)], line[PANKHOLIM_LINE_CELLS];
+/* One terminal at a time. */
+static struct {
+    pankholim_terminal record;
+    uint16_t page[PANKHOLIM_CELLS(PANKHOLIM_MAX_ROWS)], line[PANKHOLIM_LINE_CELLS];
+    size_t cells;
+    uint64_t replied;
+} it;
 
-/* A chunk, and what changed in it. */
-static void feed_chunk(const uint8_t *bytes, size_t length, struct outcome *outcome)
+static void *start(size_t rows)
+{
+    it.cells = PANKHOLIM_CELLS(rows);
+    it.replied = 0;
+    if (pankholim_start(&it.record, rows, it.page, it.cells, it.line, PANKHOLIM_LINE_CELLS) != PANKHOLIM_DONE)
+        abort();
+    return &it;
+}
+
+static uint64_t feed(void *terminal, const uint8_t *bytes, size_t length)
 {
     uint8_t reply[256];
     size_t read, replied;
@@ -16,32 +28,36 @@ static void feed_chunk(const uint8_t *bytes, size_t length, struct outcome *outc
     uint32_t count;
     uint8_t answer, line_changed;
 
+    (void)terminal;
     do {
-        answer = pankholim_feed(&terminal, page, PANKHOLIM_CELLS(ROWS), line, PANKHOLIM_LINE_CELLS, bytes, length, reply,
+        answer = pankholim_feed(&it.record, it.page, it.cells, it.line, PANKHOLIM_LINE_CELLS, bytes, length, reply,
                                 sizeof reply, &read, &replied);
-        outcome->replied += replied;
+        it.replied += replied;
         bytes += read;
         length -= read;
     } while (answer == PANKHOLIM_NO_ROOM);
-    if (answer != PANKHOLIM_DONE || pankholim_ask(&terminal, &rows, &count, &line_changed) != PANKHOLIM_DONE)
+    if (answer != PANKHOLIM_DONE || pankholim_ask(&it.record, &rows, &count, &line_changed) != PANKHOLIM_DONE)
         abort();
-    fold_rows(outcome, rows);
+    return rows;
 }
 
-static double feed(const uint8_t *bytes, size_t length, struct outcome *outcome)
+static uint64_t replied_of(void *terminal)
 {
-    double from, to;
-    size_t at, i;
-
-    memset(outcome, 0, sizeof *outcome);
-    pankholim_start(&terminal, ROWS, page, PANKHOLIM_CELLS(ROWS), line, PANKHOLIM_LINE_CELLS);
-    from = processor_time();
-    for (at = 0; at < length; at += CHUNK)
-        feed_chunk(bytes + at, length - at < CHUNK ? length - at : CHUNK, outcome);
-    to = processor_time();
-    for (i = 0; i < PANKHOLIM_CELLS(ROWS); i++)
-        outcome->page[i] = pankholim_set_of(page[i]) == PANKHOLIM_ASCII ? pankholim_code(page[i]) : 0;
-    return to - from;
+    (void)terminal;
+    return it.replied;
 }
 
-const struct reader ours = { "ours", feed };
+static uint8_t read_code(void *terminal, size_t row, size_t column)
+{
+    uint16_t word = it.page[row * PANKHOLIM_COLUMNS + column];
+
+    (void)terminal;
+    return pankholim_set_of(word) == PANKHOLIM_ASCII ? pankholim_code(word) : 0;
+}
+
+static void stop(void *terminal)
+{
+    (void)terminal;
+}
+
+const struct reader ours = { "ours", start, feed, replied_of, read_code, NULL, stop };

@@ -1,6 +1,6 @@
 -- Laws of sets of rows and their bits.
-use mathlib.Core.Path.{_≡_, refl, sym, _∙_}
-use mathlib.Core.Bool.{Bool, true, false, _||_}
+use mathlib.Core.Path.{_≡_, refl, sym, ap, _∙_}
+use mathlib.Core.Bool.{Bool, true, false, _||_, or-assoc, or-false}
 use mathlib.Core.Logic.{⊎-elim}
 use Prim.Native.Nat.{ℕ, zero, suc, _+_, _-_, _*_, _/_, _%_, _^_, _<_}
 use native.Mathlib.Nat.{pow-suc, mul-comm, zero-mul, mul-assoc, add-comm, add-mul-div-right, mod-eq-of-lt, mod-one}
@@ -13,7 +13,7 @@ use lib.Pow.{pow-pos, pow-add}
 use Rattle.cells.specs.Cells.{bit}
 use Rattle.cells.specs.Sets.{bitsOf, sizeOf, hasBit, added}
 use Rattle.cells.proofs.CellLaws.{bit-lt, bit-flag, flag-back}
-use Rattle.ground.proofs.ListLaws.{split-eq}
+use Rattle.ground.proofs.ListLaws.{known, split-eq}
 
 pub bits-lt : (n : ℕ) (s : ℕ → Bool) → bitsOf n s < 2 ^ n
 unfolding bitsOf
@@ -87,13 +87,39 @@ bits-at (suc n) s k l =
 -- ---- a number is its bits
 
 -- its lowest n bits are those of what is left of it
-bits-mod : (n m : ℕ) → bitsOf n (hasBit m) ≡ m % 2 ^ n
+pub bits-mod : (n m : ℕ) → bitsOf n (hasBit m) ≡ m % 2 ^ n
 unfolding bitsOf
 bits-mod zero m = sym (mod-one m)
 bits-mod (suc n) m = rw (bit-flag, bits-mod n m, pow-suc 2 n, mul-comm (2 ^ n) 2, mod-mul m {m = 2} {c = 2 ^ n} (lit< tt) (pow-pos n))
 
 pub bits-own : (n m : ℕ) → m < 2 ^ n → bitsOf n (hasBit m) ≡ m
 bits-own n m l = bits-mod n m ∙ mod-eq-of-lt l
+
+-- ---- `|` of three
+
+bits-assoc : (n : ℕ) (s t u : ℕ → Bool) → bitOr (bitOr (bitsOf n s) (bitsOf n t)) (bitsOf n u) ≡ bitOr (bitsOf n s) (bitOr (bitsOf n t) (bitsOf n u))
+bits-assoc n s t u =
+    rw (bits-or n s t, bits-or n t u, bits-or n (λ k. s k || t k) u, bits-or n s (λ k. t k || u k)) (bits-ext n _ _ (λ k b. or-assoc (s k) (t k) (u k)))
+
+-- a number has no more bits than it counts
+below-pow : (n : ℕ) → n < 2 ^ n
+below-pow zero = lit< tt
+below-pow (suc n) = rw (pow-suc 2 n) (omega (arith, below-pow n))
+
+pub bit-or-assoc : (a b c : ℕ) → bitOr (bitOr a b) c ≡ bitOr a (bitOr b c)
+bit-or-assoc a b c =
+    let n : ℕ = a + b + c in
+    let l : a + b + c < 2 ^ (a + b + c) = below-pow n in
+    rw (bits-own n a (omega arith), bits-own n b (omega arith), bits-own n c (omega arith)) at (bits-assoc n (hasBit a) (hasBit b) (hasBit c))
+
+-- ---- rows that are added
+
+-- rows that are all known add nothing
+pub or-within : (n m : ℕ) (s : ℕ → Bool) → m < 2 ^ n → ((k : ℕ) → k < n → s k ≡ true → hasBit m k ≡ true) → bitOr m (bitsOf n s) ≡ m
+or-within n m s l h =
+    ap (λ (x : ℕ). bitOr x (bitsOf n s)) (sym (bits-own n m l)) ∙ bits-or n (hasBit m) s
+    ∙ bits-ext n (λ k. hasBit m k || s k) (hasBit m) (λ k b. ⊎-elim (λ e. rw (h k b e)) (λ e. rw e (or-false (hasBit m k))) (known (s k)))
+    ∙ bits-own n m l
 
 -- what `|` gives is what is added
 pub or-added : (n m : ℕ) (s : ℕ → Bool) → m < 2 ^ n → bitOr m (bitsOf n s) ≡ added n m s

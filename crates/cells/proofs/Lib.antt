@@ -7,3 +7,4 @@ pub mod EveryLaws
 pub mod ChangeLaws
 pub mod Storing
 pub mod Beside
+pub mod Putting

@@ -1,5 +1,6 @@
 // What a cell holds, as a word, and what becomes of it; segments of words; sets of rows.
 pub mod marks;
+pub mod runs;
 pub mod segments;
 pub mod words;
 

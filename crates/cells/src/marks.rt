@@ -12,6 +12,14 @@ pub fn row_bit(row: u8, changed: bool) -> u64
     if changed { 1u64 << row } else { 0 }
 }
 
+// Whether a row is in a set.
+pub fn has_bit(bits: u64, row: u8) -> bool
+    requires { ⌜ row < 64 ⌝ }
+    ensures { λ r. ⌜ r ≡ hasBit bits row ⌝ }
+{
+    (bits >> row) % 2 == 1
+}
+
 // How many rows are in a set: of a page of n rows, for any n that has room for the bits.
 pub fn count_rows(bits: u64) -> u32
     ensures { λ r. ⌜ ((n : ℕ) → bits < 2 ^ n → r ≡ sizeOf n (hasBit bits)) ⌝ }

@@ -1,12 +1,14 @@
-// Segments: runs of words in a lent slice. Each function writes each word of its segment once, compares
-// it with the one that stood there, and says whether some word changed.
+// Segments: runs of words in a lent slice. Each function writes each word of its segment once. All but `copy_over`
+// compare it with the one that stood there, and say whether some word changed.
 use crate::COLUMNS;
 use crate::CellChange;
 use crate::words::changed_by;
 ghost use mathlib.Core.List.{map};
 ghost use mathlib.Core.Logic.{_⊎_};
+ghost use mathlib.Core.Path.{_≡_};
 ghost use Prim.Native.Nat.{_+_, _≤_};
 ghost use lib.ListN.{length, drop, replicate};
+ghost use lib.Seq.{paste};
 ghost use Rattle.cells.specs.Cells.{changedBy};
 ghost use Rattle.cells.specs.Segments.{Pasted};
 
@@ -52,6 +54,18 @@ pub fn copy_columns(page: &mut [u16], to: usize, from: usize, len: usize) -> boo
         copy_upward(page, to, from, COLUMNS)
     } else {
         copy_upward(page, to, from, len)
+    }
+}
+
+// Copies a row's length of words from `from` to `to`, and compares none.
+pub fn copy_over(page: &mut [u16], to: usize, from: usize)
+    requires { ⌜ (from + 80 ≤ length (now page)) × (to + 80 ≤ length (now page)) × ((to ≤ from) ⊎ (from + 80 ≤ to)) ⌝ }
+    ensures { λ _. ⌜ now (page .exit) ≡ paste (now (page .entry)) to (drop from (now (page .entry))) 80 ⌝ }
+{
+    let mut k = 0;
+    while k < COLUMNS {
+        page[to + k] = page[from + k];
+        k += 1;
     }
 }
 

@@ -6,3 +6,4 @@ pub mod Glyphs
 pub mod Modes
 pub mod Effects
 pub mod StatusLine
+pub mod Pens

@@ -4,6 +4,7 @@ pub mod effects;
 pub mod fresh;
 pub mod geometry;
 pub mod glyphs;
+pub mod pens;
 pub mod status;
 pub mod whole;
 

@@ -15,6 +15,8 @@ use parser::params::Params;
 ghost use mathlib.Core.Path.{_≡_};
 ghost use mathlib.Core.Bool.{true, cond, _||_};
 ghost use lib.Dec.{eqb, ltb};
+ghost use Rattle.ground.specs.Folds.{folded};
+ghost use Rattle.parser.specs.Params.{paramList, numbers};
 ghost use Rattle.core.specs.Bounds.{Bounds};
 ghost use Rattle.core.specs.StatusLine.{isLine};
 ghost use Rattle.csi.specs.Sequences as sequences;
@@ -123,7 +125,12 @@ fn render(mut rendition: Rendition, value: u16) -> Rendition
 {
     match value {
         0 => {
-            return plain_rendition();
+            return Rendition {
+                bold: false,
+                underline: false,
+                blink: false,
+                reverse: false,
+            };
         }
         1 => rendition.bold = true,
         4 => rendition.underline = true,
@@ -138,18 +145,25 @@ fn render(mut rendition: Rendition, value: u16) -> Rendition
     rendition
 }
 
-// SGR.
-pub fn select_graphic_rendition(mut core: Core, params: Params) -> Decision
-    ensures { λ r. ⌜ r ≡ sequences.selectRendition core params ⌝ }
+// All parameters in order.
+pub fn rendition_after(mut rendition: Rendition, params: Params) -> Rendition
+    ensures { λ r. ⌜ r ≡ folded sequences.rendered rendition (numbers (paramList params)) ⌝ }
 {
-    let mut rendition = core.rendition;
     let count = params.count();
     let mut i: u8 = 0;
     while i < count {
         rendition = render(rendition, params.get(i));
         i += 1;
     }
-    core.rendition = rendition;
+    rendition
+}
+
+// SGR.
+pub fn select_graphic_rendition(mut core: Core, params: Params) -> Decision
+    ensures { λ r. ⌜ r ≡ sequences.selectRendition core params ⌝ }
+{
+    let rendition = core.rendition;
+    core.rendition = rendition_after(rendition, params);
     unedited(core)
 }
 

@@ -30,7 +30,7 @@ use Rattle.dispatch.specs.Decide.{effect, executed}
 -- ---- tests
 
 -- a number that is not in a list is none of the list's
-other : (ks : List ℕ) (n : ℕ) → member n ks ≡ false → (k : ℕ) → member k ks ≡ true → eqb n k ≡ false
+pub other : (ks : List ℕ) (n : ℕ) → member n ks ≡ false → (k : ℕ) → member k ks ≡ true → eqb n k ≡ false
 other ks n h k e = ne-eqb n k (λ p. false≢true (sym h ∙ ap (λ (x : ℕ). member x ks) p ∙ e))
 
 -- two or three tests, none of which holds

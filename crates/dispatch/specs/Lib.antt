@@ -4,3 +4,4 @@ pub mod Replies
 pub mod Decide
 pub mod Displays
 pub mod Events
+pub mod Touches

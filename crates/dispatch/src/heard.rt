@@ -11,7 +11,7 @@ ghost use mathlib.Core.Bool.{not, _||_};
 ghost use Rattle.core.specs.StatusLine.{isLine};
 ghost use Rattle.dispatch.specs.Heard as hearing;
 
-fn inside_margins(core: Core) -> bool
+pub fn inside_margins(core: Core) -> bool
     ensures { λ r. ⌜ r ≡ hearing.insideMargins core ⌝ }
 {
     let row = core.cursor.row;
@@ -19,7 +19,7 @@ fn inside_margins(core: Core) -> bool
 }
 
 // Outside T to B, and on the status line.
-fn ignores_lines(core: Core) -> bool
+pub fn ignores_lines(core: Core) -> bool
     ensures { λ r. ⌜ r ≡ isLine core || not (hearing.insideMargins core) ⌝ }
 {
     is_line(core) | !inside_margins(core)

@@ -4,4 +4,5 @@ pub mod displays;
 pub mod events;
 pub mod heard;
 pub mod reply;
+pub mod touches;
 pub mod wrap;

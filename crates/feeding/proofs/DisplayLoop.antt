@@ -5,29 +5,21 @@ use mathlib.Core.List.{List, [], _∷_, _++_}
 use Prim.Native.Nat.{ℕ, _+_, _≤_, _<_, zero-le}
 use native.Mathlib.Numerals.{add-one}
 use native.Mathlib.Omega.{arith}
-use lib.Bits.{bitOr}
 use lib.Dec.{eqb}
 use lib.ListN.{length, getD, take}
 use lib.Seq.{take-suc}
 use borrow.Author.Tests.{eqb-true}
 use Rattle.ground.specs.Spans.{span}
 use Rattle.ground.proofs.SpanLaws.{take-span}
-use Rattle.idle.specs.declared.Idle.{Idle}
-use Rattle.idle.specs.Idle.{Skipped}
 use Rattle.core.specs.declared.Core.{Core}
-use Rattle.core.specs.Effects.{withCursor, withParser}
 use Rattle.dispatch.specs.Decide.{decided}
 use Rattle.dispatch.specs.Events.{interrupts}
 use Rattle.dispatch.proofs.EventLaws.{left-false, uninterrupted}
 use Rattle.steps.specs.declared.byte.AfterByte.{AfterByte}
-use Rattle.steps.specs.declared.characters.Characters.{Characters}
-use Rattle.steps.specs.Steps.{editedBy}
-use Rattle.steps.specs.OneDisplay.{Display, display, editsOf, acts, actsOver, coreOver, lasting, AllQuiet, RestQuiet}
+use Rattle.steps.specs.OneDisplay.{Display, display, acts, actsOver, coreOver, lasting, AllQuiet, RestQuiet}
 use Rattle.steps.specs.Ready.{Paged}
-use Rattle.steps.specs.Spans.{Spanned}
-use Rattle.steps.proofs.DisplayLaws.{over-append, over-core, and-assoc, lasting-last, lasting-append, rest-append, PagedAt, acts-paged, acts-long}
-use Rattle.steps.proofs.ByteLaws.{acts-is}
-use Rattle.steps.proofs.SpannedLaws.{spanned-idle}
+use Rattle.spans.specs.Spans.{Spanned}
+use Rattle.steps.proofs.DisplayLaws.{over-append, acts-core, over-core, and-assoc, lasting-last, lasting-append, rest-append, PagedAt, acts-paged, acts-long}
 use Rattle.feeding.specs.Runs.{Ran}
 
 pub record Running (c : Core) (n : ℕ) (p input : List ℕ) (i : ℕ) (c' : Core) (n' : ℕ) (on : Bool) (p' : List ℕ) : Type 0 where
@@ -58,7 +50,7 @@ module _ {c : Core} {n : ℕ} {p input : List ℕ} {i : ℕ} {c' : Core} {n' : �
   on-last = rw (R .lasts, core-is) (lasting-last c (take i input))
 
   -- bytes that do not interrupt
-  running-span : (j : ℕ) (c'' : Core) (n'' : ℕ) (p'' : List ℕ) → Spanned c' n' p' input i j c'' n'' p'' → Running c n p input j c'' n'' on p''
+  pub running-span : (j : ℕ) (c'' : Core) (n'' : ℕ) (p'' : List ℕ) → Spanned c' n' p' input i j c'' n'' p'' → Running c n p input j c'' n'' on p''
   running-span j c'' n'' p'' S =
       let xs : List ℕ = take i input in
       let ys : List ℕ = span input i j in
@@ -91,13 +83,12 @@ module _ {c : Core} {n : ℕ} {p input : List ℕ} {i : ℕ} {c' : Core} {n' : �
             rest-append c (take i input) (b ∷ []) (R .quiet) (subst (λ (x : Core). AllQuiet x (b ∷ [])) core-is (quiet, tt))
 
     -- one byte more
-    pub running-more : (interrupts (c' .parser .phase) b && not (eqb i 0)) ≡ false → (a : AfterByte) (q : List ℕ) → a .core ≡ decided c' b .core
-        → record { page = q; changed = a .changed } ≡ editedBy (c' .rows) (editsOf (decided c' b)) p'
-        → Running c n p input (i + 1) (a .core) (bitOr n' (a .changed)) (on && a .core .modes .autowrap) q
+    pub running-more : (interrupts (c' .parser .phase) b && not (eqb i 0)) ≡ false → (a : AfterByte) (q : List ℕ)
+        → display (a .core) q (a .changed) ≡ acts (display c' p' n') b → Running c n p input (i + 1) (a .core) (a .changed) (on && a .core .modes .autowrap) q
     unfolding actsOver lasting
-    running-more h a q ec em =
+    running-more h a q is =
         let xs : List ℕ = take i input in
-        let is : display (a .core) q (bitOr n' (a .changed)) ≡ acts (display c' p' n') b = acts-is c' n' p' b (a .core) q (a .changed) ec em (bitOr n' (a .changed)) refl in
+        let ec : a .core ≡ decided c' b .core = ap (λ (d : Display). d .core) is ∙ acts-core (display c' p' n') b in
         let on' : Bool = a .core .modes .autowrap in
         record {
           within = omega arith;
@@ -115,12 +106,3 @@ module _ {c : Core} {n : ℕ} {p input : List ℕ} {i : ℕ} {c' : Core} {n' : �
   -- the loop is left here
   pub running-ran : (0 < length input → 0 < i) → Ran c n p input (record { core = c'; changed = n'; lasting = on; read = i }) p'
   running-ran some = record { most = R .within; some = some; display-is = R .display-is; quiet = R .quiet; lasts = R .lasts }
-
--- characters that are just put, then bytes that only move the parser
-pub running-spans : {c : Core} {n : ℕ} {p input : List ℕ} {i : ℕ} {c' : Core} {n' : ℕ} {on : Bool} {p' : List ℕ} → Running c n p input i c' n' on p'
-    → (r : Characters) (q : List ℕ) → Spanned c' n' p' input i (r .next) (withCursor c' (r .cursor)) (r .changed) q
-    → (x : Idle) → Skipped (c' .parser) input (r .next) x
-    → Running c n p input (x .next) (withParser (withCursor c' (r .cursor)) (x .parser)) (r .changed) on q
-running-spans R r q S x K =
-    let M = running-span R (r .next) _ (r .changed) q S in
-    running-span M (x .next) _ (r .changed) q (spanned-idle _ _ q _ (r .next) x (M .paged) K)

@@ -106,7 +106,7 @@ fn blank_line(action: Action, cells: &mut [u16]) -> bool
             to: 80,
             word: BLANK,
         };
-        return apply(whole, cells, 1) != 0;
+        return apply(whole, cells, 1, 0) != 0;
     }
     false
 }

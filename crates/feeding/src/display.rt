@@ -1,9 +1,8 @@
 // Bytes on one display, the page or the line as a page of one row.
 use core::Core;
 use dispatch::events::interrupts;
-use idle::skip_idle;
+use spans::parts::feed_parts;
 use steps::byte::step;
-use steps::characters::print_characters;
 ghost use Rattle.steps.specs.Ready.{Paged};
 ghost use Rattle.feeding.specs.Runs.{Ran};
 
@@ -15,8 +14,8 @@ pub struct Run {
     pub read: usize,
 }
 
-// The first byte, whatever it is, and those after it up to one that may draw a reply or tell the line something: characters
-// that are just put, bytes that only move the parser, then one of any kind.
+// The first byte, whatever it is, and those after it up to one that may draw a reply or tell the line something: bytes that move
+// parts of the core alone, then one of any kind.
 pub fn feed_display(core: Core, changed: u64, page: &mut [u16], input: &[u8]) -> Run
     requires { ⌜ Paged core (now page) ⌝ }
     ensures { λ r. ⌜ Ran core changed (now (page .entry)) (now (input .entry)) r (now (page .exit)) ⌝ }
@@ -26,15 +25,15 @@ pub fn feed_display(core: Core, changed: u64, page: &mut [u16], input: &[u8]) ->
     let mut lasting = core.modes.autowrap;
     let mut i = 0;
     while i < input.len() {
-        let printed = print_characters(core, changed, page, input, i);
-        let cursor = printed.cursor;
+        let done = feed_parts(core, changed, page, input, i);
+        let cursor = done.cursor;
+        let rendition = done.rendition;
+        let parser = done.parser;
         core.cursor = cursor;
-        changed = printed.changed;
-        let parser = core.parser;
-        let idle = skip_idle(parser, input, printed.next);
-        let parser = idle.parser;
+        core.rendition = rendition;
         core.parser = parser;
-        i = idle.next;
+        changed = done.changed;
+        i = done.next;
         if i < input.len() {
             let byte = input[i];
             let phase = parser.phase;
@@ -47,9 +46,9 @@ pub fn feed_display(core: Core, changed: u64, page: &mut [u16], input: &[u8]) ->
                 };
             }
             let decoded = parser.decode(byte);
-            let after = step(core, byte, decoded, page);
+            let after = step(core, changed, byte, decoded, page);
             core = after.core;
-            changed |= after.changed;
+            changed = after.changed;
             lasting = lasting & core.modes.autowrap;
             i += 1;
         }

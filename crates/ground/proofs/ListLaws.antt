@@ -72,3 +72,8 @@ pub take-map : (f : ℕ → ℕ) (n : ℕ) (l : List ℕ) → take n (map f l) �
 take-map f zero l = refl
 take-map f (suc n) [] = refl
 take-map f (suc n) (x ∷ l) = rw (take-map f n l)
+
+pub drop-map : (f : ℕ → ℕ) (n : ℕ) (l : List ℕ) → drop n (map f l) ≡ map f (drop n l)
+drop-map f zero l = refl
+drop-map f (suc n) [] = refl
+drop-map f (suc n) (x ∷ l) = drop-map f n l

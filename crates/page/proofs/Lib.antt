@@ -3,5 +3,7 @@ pub mod Parts
 pub mod EditLaws
 pub mod EnteringLaws
 pub mod Redoing
+pub mod KnownRows
 pub mod Blocks
+pub mod KnownBlocks
 pub mod OneRow

@@ -21,7 +21,7 @@ ghost use Rattle.page.specs.declared.Edit.the-variants.{Put, InsertCells
 ghost use Rattle.page.specs.declared.Edit.the-variants.{FillRange, ChangeRange, FillRectangle, ChangeRectangle, CopyRectangle};
 ghost use Rattle.cells.specs.Cells.{blank};
 ghost use Rattle.page.specs.Edits.{rangeStart};
-ghost use Rattle.page.specs.Writes.{Edited, BlockFits, Fits, Applied};
+ghost use Rattle.page.specs.Writes.{Edited, EditedOver, BlockFits, Fits, AppliedOver};
 
 // The page's width among places in reading order, and how far a row's last cell is from its first.
 const WIDTH: u16 = COLUMNS as u16;
@@ -66,22 +66,30 @@ fn delete_cells(page: &mut [u16], row: u8, column: u8, end: u8, count: u8) -> u6
 }
 
 // Rows go up, and blanks enter below.
-fn scroll_up(page: &mut [u16], top: u8, end: u8, left: u8, right: u8, count: u8) -> u64
+fn scroll_up(page: &mut [u16], top: u8, end: u8, left: u8, right: u8, count: u8, known: u64) -> u64
     requires { ⌜ BlockFits (now page) top end left right × (count ≤ end - top) ⌝ }
-    ensures { λ r. ⌜ Edited (ScrollUp top end left right count) (now (page .entry)) (now (page .exit)) r ⌝ }
+    ensures { λ r. ⌜ EditedOver (ScrollUp top end left right count) (now (page .entry)) (now (page .exit)) known r ⌝ }
 {
     let last = end - count;
-    let moved = raise_rows(page, top, last, left, right, count, left);
+    let moved = raise_rows(page, top, last, left, right, count, left, known);
     moved | fill_rows(page, last, end, left, right, BLANK)
 }
 
 // Rows go down, and blanks enter above.
-fn scroll_down(page: &mut [u16], top: u8, end: u8, left: u8, right: u8, count: u8) -> u64
+fn scroll_down(
+    page: &mut [u16],
+    top: u8,
+    end: u8,
+    left: u8,
+    right: u8,
+    count: u8,
+    known: u64,
+) -> u64
     requires { ⌜ BlockFits (now page) top end left right × (count ≤ end - top) ⌝ }
-    ensures { λ r. ⌜ Edited (ScrollDown top end left right count) (now (page .entry)) (now (page .exit)) r ⌝ }
+    ensures { λ r. ⌜ EditedOver (ScrollDown top end left right count) (now (page .entry)) (now (page .exit)) known r ⌝ }
 {
     let first = top + count;
-    let moved = lower_rows(page, first, end, left, right, count, left);
+    let moved = lower_rows(page, first, end, left, right, count, left, known);
     moved | fill_rows(page, top, first, left, right, BLANK)
 }
 
@@ -170,62 +178,63 @@ fn copy_rectangle(
         return slide_rows(page, top, end, left, right, column);
     }
     if top < row {
-        return raise_rows(page, top, end, left, right, row - top, column);
+        return raise_rows(page, top, end, left, right, row - top, column, 0);
     }
-    lower_rows(page, top, end, left, right, top - row, column)
+    lower_rows(page, top, end, left, right, top - row, column, 0)
 }
 
-// Any edit. Each function goes by the edit's own numbers, so `rows` is there for the promise alone.
-pub fn change(edit: Edit, page: &mut [u16], rows: u8) -> u64
+// Any edit. Each function goes by the edit's own numbers, so `rows` is there for the promise alone. `known` are the
+// rows that are known to have changed: where whole rows scroll they are not compared.
+pub fn change(edit: Edit, page: &mut [u16], rows: u8, known: u64) -> u64
     requires { ⌜ Fits rows edit (now page) ⌝ }
-    ensures { λ r. ⌜ Applied rows edit (now (page .entry)) (now (page .exit)) r ⌝ }
+    ensures { λ r. ⌜ AppliedOver rows edit (now (page .entry)) (now (page .exit)) known r ⌝ }
 {
     match edit {
-        Edit::Keep => 0,
-        Edit::Put { row, column, word } => put(page, row, column, word),
+        Edit::Keep => known,
+        Edit::Put { row, column, word } => known | put(page, row, column, word),
         Edit::InsertCells {
             row,
             column,
             end,
             count,
             word,
-        } => insert_cells(page, row, column, end, count, word),
+        } => known | insert_cells(page, row, column, end, count, word),
         Edit::DeleteCells {
             row,
             column,
             end,
             count,
-        } => delete_cells(page, row, column, end, count),
+        } => known | delete_cells(page, row, column, end, count),
         Edit::ScrollUp {
             top,
             end,
             left,
             right,
             count,
-        } => scroll_up(page, top, end, left, right, count),
+        } => scroll_up(page, top, end, left, right, count, known),
         Edit::ScrollDown {
             top,
             end,
             left,
             right,
             count,
-        } => scroll_down(page, top, end, left, right, count),
-        Edit::FillRange { from, to, word } => fill_range(page, from, to, word),
-        Edit::ChangeRange { from, to, change } => change_range(page, from, to, change),
+        } => scroll_down(page, top, end, left, right, count, known),
+        Edit::FillRange { from, to, word } => known | fill_range(page, from, to, word),
+        Edit::ChangeRange { from, to, change } => known | change_range(page, from, to, change),
         Edit::FillRectangle {
             top,
             end,
             left,
             right,
             word,
-        } => fill_rectangle(page, top, end, left, right, word),
+        } => known | fill_rectangle(page, top, end, left, right, word),
         Edit::ChangeRectangle {
             top,
             end,
             left,
             right,
             change,
-        } => change_rectangle(page, top, end, left, right, change),
+        } => known | change_rectangle(page, top, end, left, right, change),
         Edit::CopyRectangle {
             top,
             end,
@@ -233,20 +242,20 @@ pub fn change(edit: Edit, page: &mut [u16], rows: u8) -> u64
             right,
             row,
             column,
-        } => copy_rectangle(page, top, end, left, right, row, column),
+        } => known | copy_rectangle(page, top, end, left, right, row, column),
     }
 }
 
-// Applies an edit to a page of `rows` rows, and hands back the bits of the rows that it changed. Most often there
-// is nothing to do; the compiler puts this test, and no more, where a byte is stepped, since `change` has another
+// Applies an edit to a page of `rows` rows, and hands back `known` with the bits of the rows that it changed. Most often
+// there is nothing to do; the compiler puts this test, and no more, where a byte is stepped, since `change` has another
 // caller (docs/DECISIONS.md, "Shape").
-pub fn apply(edit: Edit, page: &mut [u16], rows: u8) -> u64
+pub fn apply(edit: Edit, page: &mut [u16], rows: u8, known: u64) -> u64
     requires { ⌜ Fits rows edit (now page) ⌝ }
-    ensures { λ r. ⌜ Applied rows edit (now (page .entry)) (now (page .exit)) r ⌝ }
+    ensures { λ r. ⌜ AppliedOver rows edit (now (page .entry)) (now (page .exit)) known r ⌝ }
 {
     match edit {
-        Edit::Keep => 0,
-        _ => change(edit, page, rows),
+        Edit::Keep => known,
+        _ => change(edit, page, rows, known),
     }
 }
 

@@ -1,8 +1,9 @@
 -- What the calls by value leave, from what their callees promise.
-use mathlib.Core.Path.{_≡_, refl}
-use mathlib.Core.Bool.{true, false≢true}
+use mathlib.Core.Path.{_≡_, refl, sym, ap, _∙_}
+use mathlib.Core.Bool.{Bool, true, false, cond, false≢true}
 use mathlib.Core.List.{List}
 use Prim.Native.Nat.{ℕ}
+use Rattle.cells.specs.Sets.{sizeOf, hasBit}
 use Rattle.terminal.specs.declared.Answer.{Answer}
 use Rattle.terminal.specs.declared.Answer.the-variants.{Done, Broken, WrongSize, NoRoom, OffPage}
 use Rattle.steps.specs.declared.State.{State}
@@ -14,16 +15,21 @@ use Rattle.terminal.specs.declared.CellRead.{CellRead}
 use Rattle.terminal.specs.declared.CursorRead.{CursorRead}
 use Rattle.terminal.specs.Answers.{number, refusal}
 use Rattle.terminal.specs.Start.{startAs, started}
-use Rattle.terminal.specs.Feed.{feedAs, fed, feedGives, feedAnswer}
+use Rattle.steps.specs.Whole.{wholeState, rightSizes}
+use Rattle.terminal.specs.Feed.{feedAs, fed, feedGives, feedAnswer, Taken}
 use Rattle.terminal.specs.Ask.{asked, askGives, askAnswer}
-use Rattle.terminal.specs.Read.{cellRead}
+use Rattle.terminal.specs.Read.{pageAnswer, readAnswer, readGives, cellRead}
 use Rattle.terminal.specs.Row.{rowRead}
 use Rattle.terminal.specs.CursorRead.{cursorRead}
 use Rattle.record.specs.declared.Terminal.{Terminal}
 use Rattle.record.specs.Numbers.{flagNumber}
-use Rattle.record.specs.Record.{stateOf}
+use Rattle.record.specs.Record.{stateOf, recordOf, emptied}
+use Rattle.record.specs.Plain.{plain}
 use Rattle.pankholim.specs.Leaves.{recordLeft, StartLeaves, FeedLeaves, AskLeaves, ReadLeaves, RowLeaves, CursorLeaves}
-use Rattle.record.proofs.RecordLaws.{state-left, state-returned}
+use Rattle.terminal.proofs.CallLaws.{asked-done, read-as, fed-broken, fed-size, fed-accepted}
+use Rattle.record.proofs.RecordLaws.{state-back, state-left, state-returned}
+use Rattle.record.proofs.PlainLaws.{plain-named, plain-whole}
+use Rattle.record.proofs.EmptiedLaws.{untold, emptied-is, whole-named, told}
 
 -- ---- a refused call returns the state as it came
 
@@ -114,3 +120,61 @@ pub cursor-leaves : (t : Terminal) (s : State) (d : CursorRead) (r wrap shown : 
 cursor-leaves t s d r wrap shown es ed ew eh er =
     let done = rw es at ed in
     rw (er, ew, eh, ← done) (record { answer-is = refl; row-is = refl; column-is = refl; wrap-is = refl; shown-is = refl })
+
+-- ---- a plain record, told of as it lies
+
+pub ask-plain : (t : Terminal) (count r : ℕ) (u : Terminal) → plain t ≡ true → count ≡ sizeOf (t .rows) (hasBit (t .changed)) → r ≡ number Done
+    → u ≡ emptied t → AskLeaves t (asked (stateOf t)) r u (t .changed) count (t .flag)
+ask-plain t count r u e ec er eu =
+    let n = plain-named t e in
+    let k = told t n in
+    rw (er, eu, asked-done (stateOf t) (plain-whole t e))
+    (record {
+      answer-is = refl;
+      state-is = ap stateOf (sym (emptied-is t n)) ∙ state-back (untold (stateOf t));
+      terminal-is = sym (emptied-is t n);
+      changed-is = sym (k .changed);
+      count-is = rw (k .rows, k .changed) ec;
+      flag-is = sym (k .flag);
+    })
+
+pub read-plain : (t : Terminal) (p : List ℕ) (row column : ℕ) (d : CellRead) (r : ℕ) → plain t ≡ true
+    → record { number = number (d .answer); result = d } ≡ readGives (pageAnswer (t .rows) p row column) p row column → r ≡ number (d .answer)
+    → ReadLeaves (cellRead (stateOf t) p row column) r (d .word)
+read-plain t p row column d r e ed er =
+    let k = told t (plain-named t e) in
+    let a : readAnswer (stateOf t) p row column ≡ pageAnswer (t .rows) p row column = rw (plain-whole t e, k .rows) in
+    rw (er, read-as (stateOf t) p row column (pageAnswer (t .rows) p row column) a, ← ed) (record { answer-is = refl; word-is = refl })
+
+pub cursor-plain : (t : Terminal) (r : ℕ) → plain t ≡ true → r ≡ number Done
+    → CursorLeaves (cursorRead (stateOf t)) r (t .cursor .row) (t .cursor .column) (t .cursor .wrap) (t .modes .shown)
+unfolding cursorRead
+cursor-plain t r e er =
+    let k = told t (plain-named t e) in
+    rw (er, plain-whole t e)
+    (record { answer-is = refl; row-is = sym (k .row); column-is = sym (k .column); wrap-is = sym (k .wrap); shown-is = sym (k .shown) })
+
+-- ---- a feeding, by the tests of its record
+
+module _ (t : Terminal) (p : Buffers) (i o : List ℕ) where
+  pub feed-broken : (r : ℕ) → wholeState (stateOf t) ≡ false → r ≡ number Broken → FeedLeaves t (fed (stateOf t) p i o) r t p o 0 0
+  feed-broken r e er =
+      rw (er, fed-broken (stateOf t) p i o e)
+      (record { answer-is = refl; state-is = refl; terminal-is = refl; buffers-is = refl; reply-is = refl; read-is = refl; replied-is = refl })
+
+  pub feed-sized : (r : ℕ) → wholeState (stateOf t) ≡ true → rightSizes (t .rows) p ≡ false → r ≡ number WrongSize
+      → FeedLeaves t (fed (stateOf t) p i o) r t p o 0 0
+  feed-sized r e h er =
+      let s : rightSizes (stateOf t .displays .core .rows) p ≡ false = rw (told t (whole-named t e) .rows) h in
+      rw (er, fed-size (stateOf t) p i o e s)
+      (record { answer-is = refl; state-is = refl; terminal-is = refl; buffers-is = refl; reply-is = refl; read-is = refl; replied-is = refl })
+
+  pub feed-takes : (s : State) → s ≡ stateOf t → wholeState (stateOf t) ≡ true → rightSizes (t .rows) p ≡ true → Taken s p
+  feed-takes s es e h = rw es (record { whole = e; sizes = rw (told t (whole-named t e) .rows) h })
+
+  pub feed-done : (s : State) (d : Fed) (q : Buffers) (reply : List ℕ) (r : ℕ) (u : Terminal) → s ≡ stateOf t → Taken s p
+      → feedAs (d .answer) (d .read) (d .replied) (d .state) q reply ≡ fed s p i o → r ≡ number (d .answer) → u ≡ recordOf (d .state)
+      → FeedLeaves t (fed (stateOf t) p i o) r u q reply (d .read) (d .replied)
+  feed-done s d q reply r u es w ed er eu =
+      let kept : refusal (d .answer) ≡ false = rw (← ed) at (fed-accepted s p i o w) in
+      feed-leaves t s p i o d q reply r u es ed er (eu ∙ sym (ap (λ (x : Bool). cond x t (recordOf (d .state))) kept))

@@ -1,21 +1,28 @@
 // The calls with the record by value: what each leaves of it is returned.
+use cells::marks::count_rows;
 use record::Terminal;
+use record::from_state::emptied;
 use record::from_state::record_of;
 use record::numbers::flag_number;
+use record::plain::is_plain;
+use record::to_state::named;
 use record::to_state::state_of;
+use record::to_state::state_with;
 use steps::State;
 use terminal::Answer;
 use terminal::answers::is_refusal;
 use terminal::answers::number;
 use terminal::calls;
+use terminal::whole::is_whole;
 ghost use mathlib.Core.Path.{_≡_};
 ghost use Rattle.steps.specs.Steps.{buffers};
+ghost use Rattle.steps.specs.Whole.{wholeState};
 ghost use Rattle.terminal.specs.Start.{started};
 ghost use Rattle.terminal.specs.Feed.{fed};
 ghost use Rattle.terminal.specs.Ask.{asked};
 ghost use Rattle.terminal.specs.Read.{cellRead};
 ghost use Rattle.terminal.specs.CursorRead.{cursorRead};
-ghost use Rattle.record.specs.Record.{stateOf};
+ghost use Rattle.record.specs.Record.{stateOf, stateWith};
 ghost use Rattle.pankholim.specs.Leaves as leaving;
 
 // The number of an answer, and the record that a call leaves.
@@ -46,7 +53,20 @@ pub fn start(terminal: Terminal, rows: usize, page: &mut [u16], line: &mut [u16]
     }
 }
 
-// `record_left` is written out here: called, it costs a feeding some 180 bytes of stack.
+// Whether the record is that of a whole state, where `state` has all its numbers. A plain one is, and no test of its state is needed.
+fn is_whole_record(terminal: Terminal, state: State) -> bool
+    requires { ⌜ state ≡ stateWith terminal (terminal .rows) ⌝ }
+    ensures { λ r. ⌜ r ≡ wholeState (stateOf terminal) ⌝ }
+{
+    if is_plain(terminal) {
+        return true;
+    }
+    if !named(terminal) {
+        return false;
+    }
+    is_whole(state)
+}
+
 pub fn feed(
     terminal: Terminal,
     page: &mut [u16],
@@ -60,26 +80,49 @@ pub fn feed(
         (fed (stateOf terminal) (buffers (now (page .entry)) (now (line .entry))) (now (input .entry)) (now (reply .entry)))
         (r .answer) (r .terminal) (buffers (now (page .exit)) (now (line .exit))) (now (reply .exit)) (now (read .exit)) (now (replied .exit)) ⌝ }
 {
-    let done = calls::feed(state_of(terminal), page, line, input, reply);
-    *read = done.read;
-    *replied = done.replied;
-    let answer = done.answer;
-    if is_refusal(answer) {
+    let state = state_with(terminal, terminal.rows);
+    if !is_whole_record(terminal, state) {
+        *read = 0;
+        *replied = 0;
         return Outcome {
-            answer: number(answer),
+            answer: number(Answer::Broken),
             terminal,
         };
     }
+    let rows = terminal.rows as usize;
+    if (page.len() != 80 * rows) | (line.len() != 80) {
+        *read = 0;
+        *replied = 0;
+        return Outcome {
+            answer: number(Answer::WrongSize),
+            terminal,
+        };
+    }
+    let done = calls::feed_whole(state, page, line, input, reply);
+    *read = done.read;
+    *replied = done.replied;
+    let answer = done.answer;
     Outcome {
         answer: number(answer),
         terminal: record_of(done.state),
     }
 }
 
+// A plain record is asked and emptied as it lies.
 pub fn ask(terminal: Terminal, changed: &mut u64, count: &mut u32, flag: &mut u8) -> Outcome
     ensures { λ r. ⌜ leaving.AskLeaves terminal (asked (stateOf terminal))
         (r .answer) (r .terminal) (now (changed .exit)) (now (count .exit)) (now (flag .exit)) ⌝ }
 {
+    if is_plain(terminal) {
+        let set = terminal.changed;
+        *changed = set;
+        *count = count_rows(set);
+        *flag = terminal.flag;
+        return Outcome {
+            answer: number(Answer::Done),
+            terminal: emptied(terminal),
+        };
+    }
     let done = calls::ask(state_of(terminal));
     *changed = done.rows;
     *count = done.count;
@@ -94,7 +137,13 @@ pub fn ask(terminal: Terminal, changed: &mut u64, count: &mut u32, flag: &mut u8
 pub fn read(terminal: Terminal, page: &[u16], row: usize, column: usize, word: &mut u16) -> u8
     ensures { λ r. ⌜ leaving.ReadLeaves (cellRead (stateOf terminal) (now (page .entry)) row column) r (now (word .exit)) ⌝ }
 {
-    let done = calls::read(state_of(terminal), page, row, column);
+    if !is_plain(terminal) {
+        let done = calls::read(state_of(terminal), page, row, column);
+        *word = done.word;
+        let answer = done.answer;
+        return number(answer);
+    }
+    let done = calls::read_cell(terminal.rows, page, row, column);
     *word = done.word;
     let answer = done.answer;
     number(answer)
@@ -109,6 +158,15 @@ pub fn cursor(
 ) -> u8
     ensures { λ r. ⌜ leaving.CursorLeaves (cursorRead (stateOf terminal)) r (now (row .exit)) (now (column .exit)) (now (wrap .exit)) (now (shown .exit)) ⌝ }
 {
+    if is_plain(terminal) {
+        let place = terminal.cursor;
+        let modes = terminal.modes;
+        *row = place.row as usize;
+        *column = place.column as usize;
+        *wrap = place.wrap;
+        *shown = modes.shown;
+        return number(Answer::Done);
+    }
     let done = calls::cursor(state_of(terminal));
     *row = done.row as usize;
     *column = done.column as usize;

@@ -94,7 +94,7 @@ impl Parser {
         }
     }
 
-    fn in_phase(self, phase: Phase) -> Self
+    pub fn in_phase(self, phase: Phase) -> Self
         ensures { λ r. ⌜ r ≡ parsing.inPhase phase self ⌝ }
     {
         let params = self.params;
@@ -123,7 +123,7 @@ impl Parser {
     }
 
     // A mark says nothing of subparameters.
-    fn with_mark(self, phase: Phase, x: u8) -> Self
+    pub fn with_mark(self, phase: Phase, x: u8) -> Self
         ensures { λ r. ⌜ r ≡ parsing.withMark phase self x ⌝ }
     {
         let params = self.params;

@@ -35,7 +35,7 @@ fn below(x: u8, limit: u8, low: Transition, high: Transition) -> Transition
 }
 
 // DCS, SOS, OSC, PM and APC open a string.
-fn opens_string(byte: u8) -> bool
+pub fn opens_string(byte: u8) -> bool
     ensures { λ r. ⌜ r ≡ parsing.opensString byte ⌝ }
 {
     (byte == 0x90) | (byte == 0x98) | between(0x9D, byte, 0x9F)

@@ -1,1 +1,4 @@
+pub mod ByteLaws
+pub mod EmptiedLaws
+pub mod PlainLaws
 pub mod RecordLaws

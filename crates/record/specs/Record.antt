@@ -255,3 +255,33 @@ stateOf t = record {
   displays = record { core = coreOf t (cond (named t) (t .rows) 0); line = lineOf (t .status) };
   tracked = record { changed = t .changed; flag = isOn (t .flag) };
 }
+
+-- the state, with a number of rows in the place of its own
+unfoldable pub stateWith : Terminal → ℕ → State
+stateWith t rows = record {
+  displays = record { core = coreOf t rows; line = lineOf (t .status) };
+  tracked = record { changed = t .changed; flag = isOn (t .flag) };
+}
+
+-- ---- a record with no row changed and the line's flag off
+
+unfoldable pub emptied : Terminal → Terminal
+emptied t = record {
+  changed = 0;
+  values = t .values;
+  tabs = t .tabs;
+  rows = t .rows;
+  top = t .top;
+  bottom = t .bottom;
+  protected = t .protected;
+  shift = t .shift;
+  cursor = t .cursor;
+  modes = t .modes;
+  rendition = t .rendition;
+  sets = t .sets;
+  saved = t .saved;
+  parser = t .parser;
+  status = t .status;
+  flag = 0;
+  unused = replicate 5 0;
+}

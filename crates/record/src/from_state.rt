@@ -164,3 +164,14 @@ pub fn record_of(state: State) -> Terminal
         unused: [0u8; 5],
     }
 }
+
+// What asking leaves of a record: no row changed, and the line's flag off.
+pub fn emptied(mut terminal: Terminal) -> Terminal
+    ensures { λ r. ⌜ r ≡ records.emptied terminal ⌝ }
+{
+    let unused = [0u8; 5];
+    terminal.changed = 0;
+    terminal.flag = 0;
+    terminal.unused = unused;
+    terminal
+}

@@ -1,6 +1,7 @@
 // A terminal as C holds it: numbers alone, so that any bytes are a record.
 pub mod from_state;
 pub mod numbers;
+pub mod plain;
 pub mod to_state;
 
 #[repr(C)]

@@ -217,7 +217,7 @@ fn status_named(status: StatusRecord) -> bool
     (status.present < 2) & (status.active < 2) & (status.wrap < 2) & saved
 }
 
-fn named(terminal: Terminal) -> bool
+pub fn named(terminal: Terminal) -> bool
     ensures { λ r. ⌜ r ≡ records.named terminal ⌝ }
 {
     let cursor = terminal.cursor;
@@ -239,25 +239,28 @@ fn named(terminal: Terminal) -> bool
         & (terminal.flag < 2)
 }
 
-// A record with a number that names nothing is that of a terminal without rows, which is broken.
-pub fn state_of(terminal: Terminal) -> State
-    ensures { λ r. ⌜ r ≡ records.stateOf terminal ⌝ }
+// The state of a record, with a number of rows in the place of its own.
+pub fn state_with(terminal: Terminal, rows: u8) -> State
+    ensures { λ r. ⌜ r ≡ records.stateWith terminal rows ⌝ }
 {
+    let core = core_of(terminal, rows);
     let line = line_of(terminal.status);
     let tracked = Tracked {
         changed: terminal.changed,
         flag: is_on(terminal.flag),
     };
-    if !named(terminal) {
-        let core = core_of(terminal, 0);
-        return State {
-            displays: Displays { core, line },
-            tracked,
-        };
-    }
-    let core = core_of(terminal, terminal.rows);
     State {
         displays: Displays { core, line },
         tracked,
     }
+}
+
+// A record with a number that names nothing is that of a terminal without rows, which is broken.
+pub fn state_of(terminal: Terminal) -> State
+    ensures { λ r. ⌜ r ≡ records.stateOf terminal ⌝ }
+{
+    if !named(terminal) {
+        return state_with(terminal, 0);
+    }
+    state_with(terminal, terminal.rows)
 }

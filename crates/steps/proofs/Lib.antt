@@ -2,5 +2,3 @@ pub mod StepLaws
 pub mod DisplayLaws
 pub mod ByteLaws
 pub mod RunLaws
-pub mod SpannedLaws
-pub mod CharacterLaws

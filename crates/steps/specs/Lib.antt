@@ -2,4 +2,3 @@ pub mod Steps
 pub mod OneDisplay
 pub mod Whole
 pub mod Ready
-pub mod Spans

@@ -5,22 +5,19 @@ use page::edits::apply;
 use parser::parser::Decoded;
 ghost use mathlib.Core.Path.{_≡_};
 ghost use Rattle.parser.specs.Parser.{decode};
-ghost use Rattle.dispatch.specs.Decide.{decided};
-ghost use Rattle.steps.specs.Steps.{editedBy};
-ghost use Rattle.steps.specs.OneDisplay.{editsOf};
+ghost use Rattle.steps.specs.OneDisplay.{display, acts};
 ghost use Rattle.steps.specs.Ready.{Paged};
 
-// The core after a byte, and the rows that it changed.
+// The core after a byte, and the changed rows.
 pub struct AfterByte {
     pub core: Core,
     pub changed: u64,
 }
 
-// Its step or steps. `byte` is there for the promise alone.
-pub fn step(core: Core, byte: u8, decoded: Decoded, page: &mut [u16]) -> AfterByte
+// Its step or steps, after which its rows are joined to those that changed before. `byte` is there for the promise alone.
+pub fn step(core: Core, changed: u64, byte: u8, decoded: Decoded, page: &mut [u16]) -> AfterByte
     requires { ⌜ Paged core (now page) × (decoded ≡ decode (core .parser) byte) ⌝ }
-    ensures { λ r. ⌜ (r .core ≡ decided core byte .core)
-        × (record { page = now (page .exit); changed = r .changed } ≡ editedBy (core .rows) (editsOf (decided core byte)) (now (page .entry))) ⌝ }
+    ensures { λ r. ⌜ display (r .core) (now (page .exit)) (r .changed) ≡ acts (display core (now (page .entry)) changed) byte ⌝ }
 {
     let mut core = core;
     let rows = core.rows;
@@ -31,10 +28,9 @@ pub fn step(core: Core, byte: u8, decoded: Decoded, page: &mut [u16]) -> AfterBy
     let next = decision.core;
     let first = decision.first;
     let second = decision.second;
-    let one = apply(first, page, rows);
-    let two = apply(second, page, rows);
+    let one = apply(first, page, rows, changed);
     AfterByte {
         core: next,
-        changed: one | two,
+        changed: apply(second, page, rows, one),
     }
 }

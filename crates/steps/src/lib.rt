@@ -1,8 +1,7 @@
-// The state, a byte's step or steps on one display, and characters that are done at once.
+// The state, and a byte's step or steps on one display.
 use core::Displays;
 
 pub mod byte;
-pub mod characters;
 
 // What is kept of the cells that bytes write. The changed rows are bits of one number, row 1 the lowest; the flag is
 // set if the line changed.

@@ -24,6 +24,7 @@ use Rattle.terminal.specs.Answers.{number, refusal}
 use Rattle.steps.specs.Whole.{rightSize, rightSizes, wholeState, WholeState}
 use Rattle.terminal.specs.Start.{startAnswer, startGives, started}
 use Rattle.terminal.specs.Feed.{fitting, feedAs, feedFirst, feedRefused, feedGives, fed, Untouched}
+pub use Rattle.terminal.specs.Feed.{Taken}
 use Rattle.terminal.specs.Ask.{askDone, askRefused, asked}
 use Rattle.terminal.specs.Read.{onPage, readAnswer, readGives, cellRead}
 use Rattle.terminal.specs.Row.{activeRows, activeCells, rowAnswer, rowCells, rowGives, rowRead}
@@ -115,16 +116,15 @@ pub fitting-refusal : (t : Bool) → refusal (cond t NoRoom Done) ≡ false
 fitting-refusal true = refl
 fitting-refusal false = refl
 
+pub fed-accepted : (s : State) (p : Buffers) (i o : List ℕ) → Taken s p → refusal (fed s p i o .result .answer) ≡ false
+fed-accepted s p i o w = rw (fed-processed s p i o (w .whole) (w .sizes)) (fitting-refusal (ltb (readCount s i o) (length i)))
+
 pub fitting-number : (t : Bool) → number (cond t NoRoom Done) ≡ cond t 3 0
 fitting-number true = refl
 fitting-number false = refl
 
--- a feeding that is not refused was given a whole state, and page and line of its sizes
-pub record Taken (s : State) (p : Buffers) : Type 0 where
-  pub whole : wholeState s ≡ true
-  pub sizes : rightSizes (s .displays .core .rows) p ≡ true
-
 module _ (s : State) (p : Buffers) (i o : List ℕ) where
+  -- a feeding that is not refused was given a whole state, and page and line of its sizes
   pub fed-taken : refusal (fed s p i o .result .answer) ≡ false → Taken s p
   fed-taken h =
       fed-cases s p i o
@@ -146,10 +146,8 @@ reads-one room k (b ∷ bs) w l h = rw (readable-fits room k b bs (omega (arith,
 
 -- ---- asking and reading
 
-pub on-page : (s : State) (r c : ℕ) → onPage (s .displays .core .rows) r c ≡ true → OnPage (s .displays .core .rows) r c
-on-page s r c e =
-    let rows = s .displays .core .rows in
-    placed rows r c (and-left (between 1 r rows) (between 1 c 80) e) (and-right (between 1 r rows) (between 1 c 80) e)
+pub on-page : (rows r c : ℕ) → onPage rows r c ≡ true → OnPage rows r c
+on-page rows r c e = placed rows r c (and-left (between 1 r rows) (between 1 c 80) e) (and-right (between 1 r rows) (between 1 c 80) e)
 
 pub asked-done : (s : State) → wholeState s ≡ true → asked s ≡ askDone s
 unfolding asked

@@ -1,5 +1,5 @@
 -- Feeding bytes: the whole result, and what is left in page, line and reply buffer.
-use mathlib.Core.Bool.{cond}
+use mathlib.Core.Bool.{true, cond}
 use mathlib.Core.List.{List}
 use mathlib.Core.Path.{_≡_}
 use Prim.Native.Nat.{ℕ}
@@ -64,3 +64,8 @@ pub record Untouched (s : State) (p : Buffers) (o : List ℕ) (f : Feed) : Type 
   pub state : f .result .state ≡ s
   pub buffers : f .buffers ≡ p
   pub reply : f .reply ≡ o
+
+-- a whole state, and page and line of its size
+pub record Taken (s : State) (p : Buffers) : Type 0 where
+  pub whole : wholeState s ≡ true
+  pub sizes : rightSizes (s .displays .core .rows) p ≡ true

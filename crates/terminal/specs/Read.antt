@@ -23,6 +23,10 @@ pub record Read : Type 0 where
   pub number : ℕ
   pub result : CellRead
 
+-- given for a whole state of so many rows
+abbrev pub pageAnswer : ℕ → List ℕ → ℕ → ℕ → Answer
+pageAnswer rows p r c = cond (rightSize rows p) (cond (onPage rows r c) Done OffPage) WrongSize
+
 -- given exactly when
 abbrev pub readAnswer : State → List ℕ → ℕ → ℕ → Answer
 readAnswer s p r c =

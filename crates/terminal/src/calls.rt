@@ -21,9 +21,9 @@ ghost use Rattle.terminal.specs.declared.Answer.the-variants.{Done, NoRo
 ghost use Rattle.steps.specs.Steps.{buffers};
 ghost use Rattle.terminal.specs.Answers.{number};
 ghost use Rattle.terminal.specs.Start as starting;
-ghost use Rattle.terminal.specs.Feed.{fed};
+ghost use Rattle.terminal.specs.Feed.{fed, Taken};
 ghost use Rattle.terminal.specs.Ask.{asked};
-ghost use Rattle.terminal.specs.Read.{cellRead};
+ghost use Rattle.terminal.specs.Read.{pageAnswer, readGives, cellRead};
 ghost use Rattle.terminal.specs.CursorRead.{cursorRead};
 
 fn fresh(rows: u8) -> State
@@ -76,6 +76,28 @@ fn fitting(full: bool) -> Answer
     Answer::Done
 }
 
+// Feeds a whole state, with page and line of its size.
+pub fn feed_whole(
+    state: State,
+    page: &mut [u16],
+    line: &mut [u16],
+    input: &[u8],
+    reply: &mut [u8],
+) -> Fed
+    requires { ⌜ Taken state (buffers (now page) (now line)) ⌝ }
+    ensures { λ r. ⌜ record { number = number (r .answer); result = r; buffers = buffers (now (page .exit)) (now (line .exit)); reply = now (reply .exit) }
+        ≡ fed state (buffers (now (page .entry)) (now (line .entry))) (now (input .entry)) (now (reply .entry)) ⌝ }
+{
+    let done = feed_bytes(state, page, line, input, reply);
+    let after = done.state;
+    Fed {
+        answer: fitting(done.full),
+        read: done.read,
+        replied: done.replied,
+        state: after,
+    }
+}
+
 // Feeds bytes from the modem, until the input ends or a reply does not fit.
 pub fn feed(state: State, page: &mut [u16], line: &mut [u16], input: &[u8], reply: &mut [u8]) -> Fed
     ensures { λ r. ⌜ record { number = number (r .answer); result = r; buffers = buffers (now (page .exit)) (now (line .exit)); reply = now (reply .exit) }
@@ -98,14 +120,7 @@ pub fn feed(state: State, page: &mut [u16], line: &mut [u16], input: &[u8], repl
             state,
         };
     }
-    let done = feed_bytes(state, page, line, input, reply);
-    let after = done.state;
-    Fed {
-        answer: fitting(done.full),
-        read: done.read,
-        replied: done.replied,
-        state: after,
-    }
+    feed_whole(state, page, line, input, reply)
 }
 
 // Asks for the changed rows and the line's flag, empties the set and clears the flag.
@@ -139,17 +154,11 @@ pub fn ask(state: State) -> Asked
     }
 }
 
-// Reads a cell of the page by its row and column, counted from 1.
-pub fn read(state: State, page: &[u16], row: usize, column: usize) -> CellRead
-    ensures { λ r. ⌜ record { number = number (r .answer); result = r } ≡ cellRead state (now (page .entry)) row column ⌝ }
+// Reads a cell of a page of so many rows.
+pub fn read_cell(rows: u8, page: &[u16], row: usize, column: usize) -> CellRead
+    ensures { λ r. ⌜ record { number = number (r .answer); result = r } ≡ readGives (pageAnswer rows (now (page .entry)) row column) (now (page .entry)) row column ⌝ }
 {
-    if !is_whole(state) {
-        return CellRead {
-            answer: Answer::Broken,
-            word: BLANK,
-        };
-    }
-    let rows = state.displays.core.rows as usize;
+    let rows = rows as usize;
     if page.len() != 80 * rows {
         return CellRead {
             answer: Answer::WrongSize,
@@ -168,6 +177,19 @@ pub fn read(state: State, page: &[u16], row: usize, column: usize) -> CellRead
             word: BLANK,
         }
     }
+}
+
+// Reads a cell of the page by its row and column, counted from 1.
+pub fn read(state: State, page: &[u16], row: usize, column: usize) -> CellRead
+    ensures { λ r. ⌜ record { number = number (r .answer); result = r } ≡ cellRead state (now (page .entry)) row column ⌝ }
+{
+    if !is_whole(state) {
+        return CellRead {
+            answer: Answer::Broken,
+            word: BLANK,
+        };
+    }
+    read_cell(state.displays.core.rows, page, row, column)
 }
 
 // Reads the page's cursor: its row and column, counted from 1, whatever origin mode says.

@@ -4,7 +4,7 @@ use steps::State;
 pub mod answers;
 pub mod calls;
 pub mod rows;
-mod whole;
+pub mod whole;
 
 // What a call answers. The numbers are in specs/Answers.antt (SCOPE 2).
 pub enum Answer {

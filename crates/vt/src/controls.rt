@@ -36,7 +36,7 @@ fn index_from(mut core: Core, cursor: Cursor) -> Decision
 }
 
 // IND.
-fn index(core: Core) -> Decision
+pub fn index(core: Core) -> Decision
     requires { ⌜ Bounds core ⌝ }
     ensures { λ r. ⌜ r ≡ controls.indexed core ⌝ }
 {
@@ -45,7 +45,7 @@ fn index(core: Core) -> Decision
 }
 
 // NEL: column 1 and IND.
-fn next_line(core: Core) -> Decision
+pub fn next_line(core: Core) -> Decision
     requires { ⌜ Bounds core ⌝ }
     ensures { λ r. ⌜ r ≡ controls.nextLined core ⌝ }
 {
@@ -54,7 +54,7 @@ fn next_line(core: Core) -> Decision
 }
 
 // LF, VT, FF: IND, and column 1 in newline mode.
-fn line_feed(core: Core) -> Decision
+pub fn line_feed(core: Core) -> Decision
     requires { ⌜ Bounds core ⌝ }
     ensures { λ r. ⌜ r ≡ controls.lineFed core ⌝ }
 {
@@ -82,7 +82,7 @@ fn reverse_index_edit(margins: Margins, stops: Stops, cursor: Cursor) -> Edit
 }
 
 // RI.
-fn reverse_index(mut core: Core) -> Decision
+pub fn reverse_index(mut core: Core) -> Decision
     requires { ⌜ Bounds core ⌝ }
     ensures { λ r. ⌜ r ≡ controls.reverseIndexed core ⌝ }
 {
@@ -97,7 +97,7 @@ fn reverse_index(mut core: Core) -> Decision
 // ---- columns
 
 // BS: left, to the left stop.
-fn backspace(mut core: Core) -> Decision
+pub fn backspace(mut core: Core) -> Decision
     ensures { λ r. ⌜ r ≡ controls.backspaced core ⌝ }
 {
     let cursor = core.cursor;
@@ -106,7 +106,7 @@ fn backspace(mut core: Core) -> Decision
 }
 
 // HT: the next tab, else the right stop.
-fn horizontal_tab(mut core: Core) -> Decision
+pub fn horizontal_tab(mut core: Core) -> Decision
     ensures { λ r. ⌜ r ≡ controls.tabbed core ⌝ }
 {
     let cursor = core.cursor;
@@ -116,7 +116,7 @@ fn horizontal_tab(mut core: Core) -> Decision
 }
 
 // CR: column 1.
-fn carriage_return(mut core: Core) -> Decision
+pub fn carriage_return(mut core: Core) -> Decision
     ensures { λ r. ⌜ r ≡ controls.returned core ⌝ }
 {
     let cursor = core.cursor;

@@ -5,6 +5,7 @@ use native.Mathlib.Omega.{arith}
 use lib.Dec.{eqb}
 use Rattle.cells.specs.Cells.{blank}
 use Rattle.page.specs.declared.Edit.the-variants.{FillRange}
+use Rattle.page.proofs.KnownRows.{applied-alone}
 use Rattle.steps.specs.Steps.{Marked}
 use Rattle.steps.proofs.ByteLaws.{first-is}
 use borrow.Author.Needs.{needs}
@@ -17,8 +18,9 @@ returns c =
     let a = c .before .before in
     let yes = a .before .before in
     let start = yes .before .before .before in
+    let A = applied-alone (a .apply .ensures) in
     let is = first-is 1 (FillRange 0 80 blank) (start .args .cells .now) (a .apply .last .1 .0) (a .apply .result) (start .pre) (omega arith)
-    (a .apply .ensures .page) (a .apply .ensures .marked) in
+    (A .page) (A .marked) in
     rw (told (yes .before .resets-all .ensures) (yes .if1 .taken)) (ap (λ (m : Marked). m .page) is, ap (λ (m : Marked). not (eqb (m .changed) 0)) is)
 
 returns-2 : tie.Need-returns-2

@@ -5,7 +5,7 @@ use Prim.Native.Nat.{ℕ}
 use native.Mathlib.Omega.{arith}
 use Rattle.page.specs.declared.Edit.{Edit}
 use Rattle.page.specs.Writes.{Fits}
-use Rattle.page.proofs.Redoing.{keep-edited, edited-applied}
+use Rattle.page.proofs.KnownRows.{keep-over, over-applied, edited-over}
 use borrow.Author.Needs.{needs}
 use Rattle.page.proofs.edits.change.Statement.{statement}
 use Rattle.page.proofs.edits.change.Tie as tie
@@ -28,14 +28,14 @@ change-spec =
     (λ c. search needs) (λ c κs. let s = c .before .before in let F = fits (s .before .before .before .pre) (s .edit8 .given .1) in omega arith)
     (λ c. search needs) (λ c κs. let s = c .before .before in let F = fits (s .before .before .before .pre) (s .edit9 .given .1) in omega arith)
     (λ c. search needs) (λ c κs. let s = c .before .before in let F = fits (s .before .before .before .pre) (s .edit10 .given .1) in omega arith)
-    (λ c. edited-applied (c .before .before .before .pre) (c .enum-told .given .1) (keep-edited _))
-    (λ c. search needs) (λ c. search edited-applied)
-    (λ c. search needs) (λ c. search edited-applied)
-    (λ c. search needs) (λ c. search edited-applied)
-    (λ c. search needs) (λ c. search edited-applied)
-    (λ c. search needs) (λ c. search edited-applied)
-    (λ c. search needs) (λ c. search edited-applied)
-    (λ c. search needs) (λ c. search edited-applied)
-    (λ c. search needs) (λ c. search edited-applied)
-    (λ c. search needs) (λ c. search edited-applied)
-    (λ c. search needs) (λ c. search edited-applied))
+    (λ c. keep-over (c .before .before .before .pre) (c .enum-told .given .1))
+    (λ c. search needs) (λ c. search edited-over)
+    (λ c. search needs) (λ c. search edited-over)
+    (λ c. search needs) (λ c. search edited-over)
+    (λ c. search needs) (λ c. search over-applied)
+    (λ c. search needs) (λ c. search over-applied)
+    (λ c. search needs) (λ c. search edited-over)
+    (λ c. search needs) (λ c. search edited-over)
+    (λ c. search needs) (λ c. search edited-over)
+    (λ c. search needs) (λ c. search edited-over)
+    (λ c. search needs) (λ c. search edited-over))

@@ -2,6 +2,7 @@
 use Prim.Native.Nat.{_+_, _-_}
 use native.Mathlib.Omega.{arith}
 use Rattle.page.proofs.Blocks.{block-copied}
+use Rattle.page.proofs.KnownRows.{over-nothing}
 use borrow.Author.Needs.{needs}
 use Rattle.page.proofs.edits.copy_rectangle.Statement.{statement}
 use Rattle.page.proofs.edits.copy_rectangle.Tie as tie
@@ -14,12 +15,14 @@ returns c =
 returns-2 : tie.Need-returns-2
 returns-2 c =
     let a = c .before .before .before .before .before .before .before .args in
-    block-copied (a .left) (a .right) (a .row) (a .column) (λ j. j + (a .row - a .top)) (λ j l h. omega arith) (c .before .before .raise-rows .ensures)
+    block-copied (a .left) (a .right) (a .row) (a .column) (λ j. j + (a .row - a .top)) (λ j l h. omega arith)
+    (over-nothing (c .before .before .raise-rows .ensures))
 
 returns-3 : tie.Need-returns-3
 returns-3 c =
     let a = c .before .before .before .before .before .before .before .args in
-    block-copied (a .left) (a .right) (a .row) (a .column) (λ j. j - (a .top - a .row)) (λ j l h. omega arith) (c .before .before .lower-rows .ensures)
+    block-copied (a .left) (a .right) (a .row) (a .column) (λ j. j - (a .top - a .row)) (λ j l h. omega arith)
+    (over-nothing (c .before .before .lower-rows .ensures))
 
 pub copy-rectangle-spec : {M : Type 1} → statement M
 copy-rectangle-spec =

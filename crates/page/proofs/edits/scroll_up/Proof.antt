@@ -1,10 +1,13 @@
 -- The rows that move and those that blanks enter are two blocks, and together they are the rows from `top` to `end`.
+use lib.Bits.{bitOr}
+use mathlib.Core.Path.{ap}
 use mathlib.Core.Logic.{inl, inr, ⊎-elim}
 use Prim.Native.Nat.{ℕ, _+_, _-_, _≤_, _<_}
 use native.Mathlib.Omega.{arith}
 use lib.Dec.{ltb}
 use borrow.Author.Tests.{lt-ltb, le-ltb}
 use Rattle.page.proofs.Blocks.{scrolled}
+use Rattle.page.proofs.KnownRows.{redone-own, over-join}
 use borrow.Author.Needs.{needs}
 use Rattle.page.proofs.edits.scroll_up.Statement.{statement}
 use Rattle.page.proofs.edits.scroll_up.Tie as tie
@@ -17,10 +20,12 @@ returns c =
     let top : ℕ = s .args .top in
     let end : ℕ = s .args .end in
     let n : ℕ = s .args .count in
-    scrolled (s .args .left) (s .args .right) (λ j. j + n) (moved .raise-rows .ensures) (entered .fill-rows .ensures) top end (λ j. ltb (j + n) end)
+    over-join (moved .raise-rows .ensures) (ap (bitOr (moved .raise-rows .result)) (entered .fill-rows .ensures .marked))
+    (scrolled (s .args .left) (s .args .right) (λ j. j + n) (moved .raise-rows .ensures .redone)
+    (redone-own (entered .fill-rows .ensures)) top end (λ j. ltb (j + n) end)
     (λ j a b. (a, omega arith, lt-ltb (j + n) end (omega arith)))
     (λ j a b. (omega arith, b, le-ltb (j + n) end (omega arith), inr a))
-    (λ j o o'. ⊎-elim (λ (b : j < top). inl b) (λ (b : end - n ≤ j). ⊎-elim (λ (d : j < end - n). absurd (omega arith)) (λ (d : end ≤ j). inr d) o') o)
+    (λ j o o'. ⊎-elim (λ (b : j < top). inl b) (λ (b : end - n ≤ j). ⊎-elim (λ (d : j < end - n). absurd (omega arith)) (λ (d : end ≤ j). inr d) o') o))
 
 pub scroll-up-spec : {M : Type 1} → statement M
 scroll-up-spec = tie.close (tie.spec (λ c. search needs) (λ c κs. search needs) (λ c κs. search needs) (λ c. search needs) returns)

@@ -3,7 +3,7 @@ use mathlib.Core.Path.{sym, _∙_}
 use borrow.Author.Tests.{not-true, not-false}
 use Rattle.steps.specs.Steps.{Buffers, buffers}
 use Rattle.terminal.specs.Feed.{fed}
-use Rattle.terminal.proofs.CallLaws.{state-facts, wrong-sizes, right-sizes, sizes-fit, fed-bytes}
+use Rattle.terminal.proofs.CallLaws.{wrong-sizes, right-sizes}
 use borrow.Author.Needs.{needs}
 use Rattle.terminal.proofs.calls.feed.Statement.{statement}
 use Rattle.terminal.proofs.calls.feed.Tie as tie
@@ -26,32 +26,22 @@ returns-2 c =
       wrong-sizes (start .args .state .displays .core .rows) (lentTo start) (c .if2 .taken),
     )
 
-feed-bytes-requires : tie.Need-feed-bytes-requires
-feed-bytes-requires c κs =
+feed-whole-requires : tie.Need-feed-whole-requires
+feed-whole-requires c κs =
     let e2 = c .before .before .before in
     let w = e2 .before .before in
     let start = w .before .before .before .before .before in
     let r = start .args .state .displays .core .rows in
-    let sizes = sizes-fit r (lentTo start) (right-sizes r (lentTo start) (e2 .if2 .left)) in
-    (record { whole = state-facts (start .args .state) (sym (w .is-whole .ensures) ∙ not-false _ (e2 .before .if1 .left)); size = sizes .0 }, sizes .1)
+    record {
+      whole = sym (w .is-whole .ensures) ∙ not-false _ (e2 .before .if1 .left);
+      sizes = right-sizes r (lentTo start) (e2 .if2 .left);
+    }
 
 returns-3 : tie.Need-returns-3
-returns-3 c =
-    let r = c .before .before .before .before .before .before .before .before in
-    let e2 = r .before .before .before .before in
-    let w = e2 .before .before in
-    let start = w .before .before .before .before .before in
-    rw (c .fitting .ensures)
-    (fed-bytes (start .args .state) (lentTo start) (start .args .input .now) (start .args .reply .now)
-    (record {
-      result = r .feed-bytes .result;
-      buffers = buffers (r .feed-bytes .last .1 .0) (r .feed-bytes .last .1 .1 .0);
-      reply = r .feed-bytes .last .1 .1 .1 .1 .0;
-    }) (r .feed-bytes .ensures)
-    (sym (w .is-whole .ensures) ∙ not-false _ (e2 .before .if1 .left)) (right-sizes (start .args .state .displays .core .rows) (lentTo start) (e2 .if2 .left)))
+returns-3 c = c .before .before .before .before .before .before .feed-whole .ensures
 
 pub feed-spec : {M : Type 1} → statement M
 feed-spec =
     tie.close
-    (tie.spec (λ c κs. search needs) returns (λ c. search needs) (λ c. search needs) returns-2 feed-bytes-requires (λ c κs. search needs)
+    (tie.spec (λ c κs. search needs) returns (λ c. search needs) (λ c. search needs) returns-2 feed-whole-requires
     (λ c. search needs) (λ c. search needs) (λ c. search needs) returns-3)

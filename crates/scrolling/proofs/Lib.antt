@@ -1,0 +1,5 @@
+pub mod ScrollLaws
+pub mod TextLaws
+pub mod LineLaws
+pub mod WriteLaws
+pub mod KnownLaws

@@ -1,0 +1,4 @@
+pub mod Spans
+pub mod Characters
+pub mod Direct
+pub mod Parts
