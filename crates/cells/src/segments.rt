@@ -1,5 +1,5 @@
 // Segments: runs of words in a lent slice. Each function writes each word of its segment once. All but `copy_over`
-// compare it with the one that stood there, and say whether some word changed.
+// and `fill_over` compare it with the one that stood there, and say whether some word changed.
 use crate::COLUMNS;
 use crate::CellChange;
 use crate::words::changed_by;
@@ -105,6 +105,18 @@ pub fn fill_columns(page: &mut [u16], to: usize, len: usize, word: u16) -> bool
         fill_words(page, to, COLUMNS, word)
     } else {
         fill_words(page, to, len, word)
+    }
+}
+
+// A row's length of words from `to` on become `word`, and none is compared.
+pub fn fill_over(page: &mut [u16], to: usize, word: u16)
+    requires { ⌜ to + 80 ≤ length (now page) ⌝ }
+    ensures { λ _. ⌜ now (page .exit) ≡ paste (now (page .entry)) to (replicate 80 word) 80 ⌝ }
+{
+    let mut k = 0;
+    while k < COLUMNS {
+        page[to + k] = word;
+        k += 1;
     }
 }
 

@@ -12,9 +12,13 @@ use Rattle.core.specs.declared.Core.{Core}
 abbrev pub usedSet : Core → ℕ → CharSet
 usedSet c b = cond (ltb b 0x80) (leftSet (c .sets) (c .shift)) (rightSet (c .sets))
 
--- in a 94-sign set 7F, A0 and FF are ignored
+-- signs of a 96-sign set alone
+abbrev pub isEdge : ℕ → Bool
+isEdge b = (eqb b 0x7F || eqb b 0xA0) || eqb b 0xFF
+
+-- in a 94-sign set they are ignored
 abbrev pub skipped : CharSet → ℕ → Bool
-skipped s b = not (has96 s) && ((eqb b 0x7F || eqb b 0xA0) || eqb b 0xFF)
+skipped s b = not (has96 s) && isEdge b
 
 -- in a 94-sign set 20 is code 20 of set ASCII
 abbrev pub shownSet : CharSet → ℕ → CharSet

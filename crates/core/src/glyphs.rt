@@ -35,11 +35,18 @@ pub fn used_set(sets: Sets, shift: SingleShift, byte: u8) -> CharSet
     sets.right_set()
 }
 
-// In a 94-sign set 7F, A0 and FF are ignored.
+// Signs of a 96-sign set alone: 7F, A0 and FF.
+pub fn is_edge(byte: u8) -> bool
+    ensures { λ r. ⌜ r ≡ glyphs.isEdge byte ⌝ }
+{
+    ((byte == 0x7F) | (byte == 0xA0)) | (byte == 0xFF)
+}
+
+// In a 94-sign set they are ignored.
 pub fn skipped(set: CharSet, byte: u8) -> bool
     ensures { λ r. ⌜ r ≡ glyphs.skipped set byte ⌝ }
 {
-    !has_96(set) & (((byte == 0x7F) | (byte == 0xA0)) | (byte == 0xFF))
+    !has_96(set) & is_edge(byte)
 }
 
 // In a 94-sign set 20 is code 20 of set ASCII.

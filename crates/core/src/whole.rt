@@ -10,7 +10,12 @@ ghost use Rattle.core.specs.Whole as whole;
 pub fn is_sized(rows: u8) -> bool
     ensures { λ r. ⌜ r ≡ whole.sized rows ⌝ }
 {
-    ((rows == 24) | (rows == 36)) | (rows == 48)
+    match rows {
+        24 => true,
+        36 => true,
+        48 => true,
+        _ => false,
+    }
 }
 
 fn is_whole_screen(core: Core) -> bool

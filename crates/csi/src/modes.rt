@@ -145,14 +145,15 @@ fn render(mut rendition: Rendition, value: u16) -> Rendition
     rendition
 }
 
-// All parameters in order.
+// All parameters in order, read where they lie: a call of `get` for each would copy them all.
 pub fn rendition_after(mut rendition: Rendition, params: Params) -> Rendition
     ensures { λ r. ⌜ r ≡ folded sequences.rendered rendition (numbers (paramList params)) ⌝ }
 {
-    let count = params.count();
-    let mut i: u8 = 0;
+    let count = params.count() as usize;
+    let values = params.values;
+    let mut i = 0;
     while i < count {
-        rendition = render(rendition, params.get(i));
+        rendition = render(rendition, values[i]);
         i += 1;
     }
     rendition

@@ -1,4 +1,5 @@
 // Wrap due: the one policy, over what is heard. The code tests what clears it, which is less than what keeps it.
+use crate::touches::is_touch;
 use core::Core;
 use core::Decision;
 use core::status::is_line;
@@ -43,26 +44,11 @@ fn escape_clears(first: u8, second: u8, last: u8) -> bool
     ((first == 0x23) & ((second == 0) & (last == 0x38))) | ((first == 0) & (last == 0x63))
 }
 
+// What moves the cursor or cells, and DECSTBM.
 fn plain_clears(last: u8) -> bool
     ensures { λ r. ⌜ r ≡ member last hearing.plainFinals && not (member last wrap.keepingFinals) ⌝ }
 {
-    match last {
-        0x40 => true, // ICH
-        0x41 => true, // CUU
-        0x42 => true, // CUD
-        0x43 => true, // CUF
-        0x44 => true, // CUB
-        0x48 => true, // CUP
-        0x4A => true, // ED
-        0x4B => true, // EL
-        0x4C => true, // IL
-        0x4D => true, // DL
-        0x50 => true, // DCH
-        0x58 => true, // ECH
-        0x66 => true, // HVP
-        0x72 => true, // DECSTBM
-        _ => false,
-    }
+    is_touch(last) | (last == 0x72)
 }
 
 // DECOM, which the status line ignores.

@@ -1,3 +1,4 @@
 pub mod DisplayLoop
 pub mod TurnLaws
 pub mod FeedLoop
+pub mod OnceLaws

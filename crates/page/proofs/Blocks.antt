@@ -3,16 +3,16 @@ use mathlib.Core.Path.{_≡_, refl, sym, ap, ap₂, _∙_}
 use mathlib.Core.Bool.{Bool, true, false, cond}
 use mathlib.Core.List.{List}
 use mathlib.Core.Logic.{_⊎_, inl, inr, ⊎-elim}
-use Prim.Native.Nat.{ℕ, _+_, _-_, _/_, _≤_, _<_}
+use Prim.Native.Nat.{ℕ, _+_, _-_, _≤_, _<_}
 use native.Mathlib.Omega.{arith}
 use lib.Dec.{eqb}
 use lib.Bits.{bitOr}
 use lib.ListN.{take, drop, replicate, length-take, length-drop, length-replicate, getD-replicate}
-use lib.Seq.{paste, paste-zero, getD-take, getD-drop, ext-getD}
+use lib.Seq.{paste, getD-take, getD-drop, ext-getD}
 use borrow.Author.Tests.{eq-eqb, ne-eqb, eqb-true}
 use Rattle.cells.specs.Rows.{row}
 use Rattle.page.specs.declared.Edit.the-variants.{CopyRectangle}
-use Rattle.page.specs.Edits.{blankRow, overlaid, overlaidFrom, rangeStart, rangeLength, inRange}
+use Rattle.page.specs.Edits.{blankRow, overlaid, overlaidFrom, inRange}
 use Rattle.page.specs.Writes.{Redone, Edited}
 use Rattle.ground.proofs.ListLaws.{split-eq}
 use Rattle.cells.proofs.Differing.{paste-ext}
@@ -43,7 +43,7 @@ module _ {p q r : List ℕ} {a e k : ℕ} {g f : ℕ → List ℕ} {bits bits' :
       (split-eq j k))
 
   -- the row behind the block, and the one before it
-  block-up : k ≡ e → a ≤ e → Redone p r (inRange a (k + 1)) g (bitOr bits bits')
+  pub block-up : k ≡ e → a ≤ e → Redone p r (inRange a (k + 1)) g (bitOr bits bits')
   block-up i h =
       next a (k + 1) (inr (omega arith)) (omega arith, omega arith)
       (λ j ne. alike a e a (k + 1) j (⊎-elim (λ (b : j < a). inl b) (λ (b : e ≤ j). inr (omega arith))) (λ b c. (b, omega arith)))
@@ -76,24 +76,6 @@ pub block-copied : {p q : List ℕ} {t e bits : ℕ} (a z r c : ℕ) (from : ℕ
     → Redone p q (inRange t e) (λ j. overlaidFrom (row p j) a z (row p (from j)) c) bits → Edited (CopyRectangle t e a z r c) p q bits
 block-copied {p} a z r c from is R = block-edited R _ (λ j l h. ap (λ (i : ℕ). overlaidFrom (row p j) a z (row p i) c) (is j l h))
 
--- ---- from the first row of a block to its last
-
--- of rows a to e, those before k are done
-abbrev pub Upward : ℕ → ℕ → List ℕ → (ℕ → List ℕ) → List ℕ → ℕ → ℕ → Type 0
-Upward a e p g q bits k = (a ≤ k) × (k ≤ e) × Redone p q (inRange a k) g bits
-
-pub up-none : (a e : ℕ) (p : List ℕ) (g : ℕ → List ℕ) → a ≤ e → Upward a e p g p 0 a
-up-none a e p g h = (omega arith, h, block-none p a g)
-
-module _ {a e k : ℕ} {p q : List ℕ} {g : ℕ → List ℕ} {bits : ℕ} (U : Upward a e p g q bits k) where
-  -- row k is done, which was as before
-  pub up-next : {r : List ℕ} {f : ℕ → List ℕ} {bits' : ℕ} → k < e → Redone q r (λ j. eqb j k) f bits' → (row q k ≡ row p k → f k ≡ g k)
-      → Upward a e p g r (bitOr bits bits') (k + 1)
-  up-next h S same = (omega arith, omega arith, block-up (U .2) S (same (block-old (U .2) k (inr (omega arith)))) refl (U .0))
-
-  pub up-all : e ≤ k → Redone p q (inRange a e) g bits
-  up-all h = block-all (U .2) refl (omega arith)
-
 -- ---- rows that are filled
 
 -- columns a to z filled are those of a row of the word
@@ -105,34 +87,6 @@ filled-row x a z w h =
     let j = simp (length-take, length-replicate) at l in
     getD-take (z - a) (replicate (z - a) w) i 0 (omega arith) ∙ getD-replicate (z - a) i w 0 (omega arith)
     ∙ sym (getD-take (z - a) (drop a (replicate 80 w)) i 0 (omega arith) ∙ getD-drop a (replicate 80 w) i 0 ∙ getD-replicate 80 (a + i) w 0 (omega arith))))
-
--- ---- a range of cells, row by row
-
--- row k with its cells of the run made anew: `new` gives their words, by the column where they begin, their number and the row
-abbrev pub overRange : (ℕ → ℕ → List ℕ → List ℕ) → ℕ → ℕ → (ℕ → List ℕ) → ℕ → List ℕ
-overRange new a z f k = paste (f k) (rangeStart a k) (new (rangeStart a k) (rangeLength a z k) (f k)) (rangeLength a z k)
-
-abbrev pub RangeDone : (ℕ → ℕ → List ℕ → List ℕ) → ℕ → ℕ → List ℕ → List ℕ → ℕ → ℕ → Type 0
-RangeDone new a z p q bits k = Upward (a / 80) ((z + 79) / 80) p (overRange new a z (row p)) q bits k
-
-module _ (new : ℕ → ℕ → List ℕ → List ℕ) (a z : ℕ) {k : ℕ} {p q : List ℕ} {bits : ℕ} (R : RangeDone new a z p q bits k) where
-  -- columns x to y of the next row are made anew
-  pub range-next : {r : List ℕ} {x y bits' : ℕ} → k < (z + 79) / 80 → x ≡ rangeStart a k → y ≡ rangeStart z k
-      → Redone q r (λ j. eqb j k) (λ j. paste (row q j) x (new x (y - x) (row q j)) (y - x)) bits' → RangeDone new a z p r (bitOr bits bits') (k + 1)
-  range-next h ex ey S = up-next R h S (λ old i. paste (old i) (ex i) (new (ex i) (ey i - ex i) (old i)) (ey i - ex i))
-
-  -- the run touches no other row
-  pub range-all : a ≤ z → (z + 79) / 80 ≤ k → Redone p q (λ j. true) (overRange new a z (row p)) bits
-  range-all h l =
-      redone-as (up-all R l) (λ j. true) (overRange new a z (row p))
-      (λ j. either (λ x. x ≡ overRange new a z (row p) j) (inRange (a / 80) ((z + 79) / 80) j) (λ _. refl)
-      (λ t. off j (not-in-range (a / 80) ((z + 79) / 80) j t)))
-    where
-      off : (j : ℕ) → (j < a / 80) ⊎ ((z + 79) / 80 ≤ j) → row p j ≡ overRange new a z (row p) j
-      off j o =
-          let none : rangeLength a z j ≡ 0 = ⊎-elim (λ (b : j < a / 80). omega arith) (λ (b : (z + 79) / 80 ≤ j). omega arith) o in
-          let s : List ℕ = new (rangeStart a j) (rangeLength a z j) (row p j) in
-          paste-zero (row p j) (rangeStart a j) s ∙ ap (paste (row p j) (rangeStart a j) s) (sym none)
 
 -- ---- a scroll: rows of a block that take another row, and then those that blanks enter
 

@@ -1,15 +1,17 @@
 -- Rows that are known to have changed: their bits are there, whether they differ or not, so they need not be compared.
 use mathlib.Core.Path.{_≡_, refl, sym, ap, _∙_}
-use mathlib.Core.Bool.{Bool, true, false, cond, false≢true}
+use mathlib.Core.Bool.{Bool, true, cond, false≢true}
 use mathlib.Core.List.{List}
 use mathlib.Core.Logic.{⊎-elim}
-use Prim.Native.Nat.{ℕ, _+_, _*_, _^_, _<_}
+use Prim.Native.Nat.{ℕ, _+_, _-_, _*_, _^_, _≤_, _<_}
 use native.Mathlib.Omega.{arith}
 use lib.Dec.{eqb}
 use lib.Bits.{bitOr, or-zero-l, or-zero-r}
-use lib.ListN.{drop}
+use lib.ListN.{length, take, drop}
 use lib.Seq.{paste}
 use Rattle.ground.proofs.ListLaws.{split-eq}
+use borrow.Author.Tests.{ne-eqb}
+use Rattle.cells.specs.Cells.{bit}
 use Rattle.cells.specs.Rows.{row, differs}
 use Rattle.cells.specs.Sets.{bitsOf, hasBit, changed}
 use Rattle.cells.proofs.BitLaws.{bit-or-assoc, or-within}
@@ -18,30 +20,35 @@ use Rattle.cells.proofs.RowParts.{part-of-row}
 use Rattle.page.specs.declared.Edit.{Edit}
 use Rattle.page.specs.declared.Edit.the-variants.{Keep}
 use Rattle.page.specs.Edits.{overlaidFrom}
-use Rattle.page.specs.Writes.{Redone, RedoneOver, Edited, EditedOver, Fits, Applied, AppliedOver}
-use Rattle.page.proofs.Redoing.{redone-old, redone-as, keep-edited, edited-applied}
+use Rattle.page.specs.Writes.{Redone, RedoneOver, Edited, EditedOver, BlockFits, Fits, Applied, AppliedOver}
+use Rattle.page.proofs.Redoing.{redone-part, redone-old, redone-as, keep-edited, edited-applied}
 
 -- ---- rows that are made anew
 
 module _ {p q : List ℕ} {done : ℕ → Bool} {g : ℕ → List ℕ} {bits : ℕ} (R : Redone p q done g bits) where
   -- with the bits of the rows that differ written out
-  pub redone-own : Redone p q done g (bitsOf 64 (changed p q))
+  redone-own : Redone p q done g (bitsOf 64 (changed p q))
   redone-own = record { long = R .long; rows = R .rows; marked = refl }
 
   -- what is compared is joined to what is known
   pub over-or : (known : ℕ) → RedoneOver p q done g known (bitOr known bits)
   over-or known = record { redone = redone-own; marked = ap (bitOr known) (R .marked) }
 
-  -- one row alone was done, and it is known
-  pub over-known : (known k : ℕ) → known < 2 ^ 64 → ((j : ℕ) → (j ≡ k → ⊥) → done j ≡ false) → hasBit known k ≡ true → RedoneOver p q done g known known
-  over-known known k l one is = record { redone = redone-own; marked = sym (or-within 64 known (changed p q) l each) }
-    where
-      each : (j : ℕ) → j < 64 → changed p q j ≡ true → hasBit known j ≡ true
-      each j b d =
-          ⊎-elim
-          (λ (e : j ≡ k). rw e is)
-          (λ (ne : j ≡ k → ⊥). absurd (false≢true (sym (differs-self (row p j)) ∙ ap (differs (row p j)) (sym (redone-old R j (one j ne))) ∙ d)))
-          (split-eq j k)
+-- a row that a paste lies in is known
+pub over-known : {p q : List ℕ} {k a e known : ℕ} (at : ℕ) (s : List ℕ) → BlockFits p k (k + 1) a e → e - a ≤ length s → at ≡ 80 * k + a
+    → q ≡ paste p at s (e - a) → known < 2 ^ 64 → hasBit known k ≡ true → RedoneOver p q (λ j. eqb j k) (λ j. paste (row p j) a s (e - a)) known known
+over-known {p} {q} {k} {a} {e} {known} at s B hs place page l is =
+    record { redone = redone-own R; marked = sym (or-within 64 known (changed p q) l each) }
+  where
+    R : Redone p q (λ j. eqb j k) (λ j. paste (row p j) a s (e - a)) (bit (differs (take (e - a) (drop at p)) (take (e - a) s)) * 2 ^ k)
+    R = redone-part B hs place (record { page = page; flagged = refl }) refl _ refl
+
+    each : (j : ℕ) → j < 64 → changed p q j ≡ true → hasBit known j ≡ true
+    each j b d =
+        ⊎-elim
+        (λ (i : j ≡ k). rw i is)
+        (λ (ne : j ≡ k → ⊥). absurd (false≢true (sym (differs-self (row p j)) ∙ ap (differs (row p j)) (sym (redone-old R j (ne-eqb j k ne))) ∙ d)))
+        (split-eq j k)
 
 -- what is done may be said in other words
 pub over-as : {p q : List ℕ} {done : ℕ → Bool} {g : ℕ → List ℕ} {known bits : ℕ} → RedoneOver p q done g known bits → (done' : ℕ → Bool) (g' : ℕ → List ℕ)

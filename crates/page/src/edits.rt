@@ -1,4 +1,4 @@
-// Edits: one function for each, and `apply` for any. Nothing outside this crate writes a page.
+// Edits: one function for each, and `apply` for any.
 use crate::Edit;
 use crate::rows::change_row;
 use crate::rows::change_rows;
@@ -72,7 +72,7 @@ fn scroll_up(page: &mut [u16], top: u8, end: u8, left: u8, right: u8, count: u8,
 {
     let last = end - count;
     let moved = raise_rows(page, top, last, left, right, count, left, known);
-    moved | fill_rows(page, last, end, left, right, BLANK)
+    fill_rows(page, last, end, left, right, BLANK, moved)
 }
 
 // Rows go down, and blanks enter above.
@@ -90,7 +90,7 @@ fn scroll_down(
 {
     let first = top + count;
     let moved = lower_rows(page, first, end, left, right, count, left, known);
-    moved | fill_rows(page, top, first, left, right, BLANK)
+    fill_rows(page, top, first, left, right, BLANK, moved)
 }
 
 // The column at which a place in reading order meets a row: 0 if it lies before it, 80 if behind it.
@@ -108,15 +108,15 @@ fn column_in(place: u16, row: u8) -> u8
 }
 
 // Each cell of a range becomes `word`.
-fn fill_range(page: &mut [u16], from: u16, to: u16, word: u16) -> u64
+fn fill_range(page: &mut [u16], from: u16, to: u16, word: u16, known: u64) -> u64
     requires { ⌜ BlockFits (now page) (from / 80) ((to + 79) / 80) 0 80 × (from ≤ to) ⌝ }
-    ensures { λ r. ⌜ Edited (FillRange from to word) (now (page .entry)) (now (page .exit)) r ⌝ }
+    ensures { λ r. ⌜ EditedOver (FillRange from to word) (now (page .entry)) (now (page .exit)) known r ⌝ }
 {
-    let mut bits = 0;
+    let mut bits = known;
     let mut k = (from / WIDTH) as u8;
     let end = ((to + LAST) / WIDTH) as u8;
     while k < end {
-        bits |= fill_row(page, k, column_in(from, k), column_in(to, k), word);
+        bits = fill_row(page, k, column_in(from, k), column_in(to, k), word, bits);
         k += 1;
     }
     bits
@@ -138,11 +138,19 @@ fn change_range(page: &mut [u16], from: u16, to: u16, change: CellChange) -> u64
 }
 
 // Each cell of a rectangle becomes `word`.
-fn fill_rectangle(page: &mut [u16], top: u8, end: u8, left: u8, right: u8, word: u16) -> u64
+fn fill_rectangle(
+    page: &mut [u16],
+    top: u8,
+    end: u8,
+    left: u8,
+    right: u8,
+    word: u16,
+    known: u64,
+) -> u64
     requires { ⌜ BlockFits (now page) top end left right ⌝ }
-    ensures { λ r. ⌜ Edited (FillRectangle top end left right word) (now (page .entry)) (now (page .exit)) r ⌝ }
+    ensures { λ r. ⌜ EditedOver (FillRectangle top end left right word) (now (page .entry)) (now (page .exit)) known r ⌝ }
 {
-    fill_rows(page, top, end, left, right, word)
+    fill_rows(page, top, end, left, right, word, known)
 }
 
 // Each cell of a rectangle changes by what it holds.
@@ -184,7 +192,7 @@ fn copy_rectangle(
 }
 
 // Any edit. Each function goes by the edit's own numbers, so `rows` is there for the promise alone. `known` are the
-// rows that are known to have changed: where whole rows scroll they are not compared.
+// rows that are known to have changed: where whole rows scroll or are filled they are not compared.
 pub fn change(edit: Edit, page: &mut [u16], rows: u8, known: u64) -> u64
     requires { ⌜ Fits rows edit (now page) ⌝ }
     ensures { λ r. ⌜ AppliedOver rows edit (now (page .entry)) (now (page .exit)) known r ⌝ }
@@ -219,7 +227,7 @@ pub fn change(edit: Edit, page: &mut [u16], rows: u8, known: u64) -> u64
             right,
             count,
         } => scroll_down(page, top, end, left, right, count, known),
-        Edit::FillRange { from, to, word } => known | fill_range(page, from, to, word),
+        Edit::FillRange { from, to, word } => fill_range(page, from, to, word, known),
         Edit::ChangeRange { from, to, change } => known | change_range(page, from, to, change),
         Edit::FillRectangle {
             top,
@@ -227,7 +235,7 @@ pub fn change(edit: Edit, page: &mut [u16], rows: u8, known: u64) -> u64
             left,
             right,
             word,
-        } => known | fill_rectangle(page, top, end, left, right, word),
+        } => fill_rectangle(page, top, end, left, right, word, known),
         Edit::ChangeRectangle {
             top,
             end,

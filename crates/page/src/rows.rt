@@ -9,6 +9,7 @@ use cells::segments::copy_columns;
 use cells::segments::copy_over;
 use cells::segments::copy_words;
 use cells::segments::fill_columns;
+use cells::segments::fill_over;
 ghost use mathlib.Core.Logic.{_⊎_};
 ghost use mathlib.Core.Path.{_≡_};
 ghost use Prim.Native.Nat.{_+_, _-_, _*_, _≤_};
@@ -90,15 +91,21 @@ fn slide_row(page: &mut [u16], at: u8, left: u8, right: u8, column: u8) -> u64
     row_bit(at, moved)
 }
 
-// Columns `left` to `right` of row `at` become `word`.
-pub fn fill_row(page: &mut [u16], at: u8, left: u8, right: u8, word: u16) -> u64
+// Columns `left` to `right` of row `at` become `word`. A whole row is not compared where it is known to have changed.
+pub fn fill_row(page: &mut [u16], at: u8, left: u8, right: u8, word: u16, known: u64) -> u64
     requires { ⌜ BlockFits (now page) at (at + 1) left right ⌝ }
-    ensures { λ r. ⌜ Redone (now (page .entry)) (now (page .exit)) (λ j. eqb j at)
-        (λ j. paste (row (now (page .entry)) j) left (replicate (right - left) word) (right - left)) r ⌝ }
+    ensures { λ r. ⌜ RedoneOver (now (page .entry)) (now (page .exit)) (λ j. eqb j at)
+        (λ j. paste (row (now (page .entry)) j) left (replicate (right - left) word) (right - left)) known r ⌝ }
 {
     let len = (right - left) as usize;
+    if len == COLUMNS {
+        if has_bit(known, at) {
+            fill_over(page, place(at, 0), word);
+            return known;
+        }
+    }
     let changed = fill_columns(page, place(at, left), len, word);
-    row_bit(at, changed)
+    known | row_bit(at, changed)
 }
 
 // Columns `left` to `right` of row `at` change by what they hold.
@@ -180,15 +187,23 @@ pub fn slide_rows(page: &mut [u16], top: u8, end: u8, left: u8, right: u8, colum
 }
 
 // They become `word`.
-pub fn fill_rows(page: &mut [u16], top: u8, end: u8, left: u8, right: u8, word: u16) -> u64
+pub fn fill_rows(
+    page: &mut [u16],
+    top: u8,
+    end: u8,
+    left: u8,
+    right: u8,
+    word: u16,
+    known: u64,
+) -> u64
     requires { ⌜ BlockFits (now page) top end left right ⌝ }
-    ensures { λ r. ⌜ Redone (now (page .entry)) (now (page .exit)) (inRange top end)
-        (λ j. overlaid (row (now (page .entry)) j) left right (replicate 80 word)) r ⌝ }
+    ensures { λ r. ⌜ RedoneOver (now (page .entry)) (now (page .exit)) (inRange top end)
+        (λ j. overlaid (row (now (page .entry)) j) left right (replicate 80 word)) known r ⌝ }
 {
-    let mut bits = 0;
+    let mut bits = known;
     let mut k = top;
     while k < end {
-        bits |= fill_row(page, k, left, right, word);
+        bits = fill_row(page, k, left, right, word, bits);
         k += 1;
     }
     bits

@@ -1,13 +1,14 @@
 -- What the calls by value leave, from what their callees promise.
 use mathlib.Core.Path.{_≡_, refl, sym, ap, _∙_}
-use mathlib.Core.Bool.{Bool, true, false, cond, false≢true}
+use mathlib.Core.Bool.{true, false, false≢true}
 use mathlib.Core.List.{List}
 use Prim.Native.Nat.{ℕ}
+use lib.ListN.{length}
 use Rattle.cells.specs.Sets.{sizeOf, hasBit}
 use Rattle.terminal.specs.declared.Answer.{Answer}
 use Rattle.terminal.specs.declared.Answer.the-variants.{Done, Broken, WrongSize, NoRoom, OffPage}
 use Rattle.steps.specs.declared.State.{State}
-use Rattle.steps.specs.Steps.{Buffers}
+use Rattle.steps.specs.Steps.{Buffers, buffers}
 use Rattle.terminal.specs.declared.Started.{Started}
 use Rattle.terminal.specs.declared.Fed.{Fed}
 use Rattle.terminal.specs.declared.Asked.{Asked}
@@ -23,10 +24,11 @@ use Rattle.terminal.specs.Row.{rowRead}
 use Rattle.terminal.specs.CursorRead.{cursorRead}
 use Rattle.record.specs.declared.Terminal.{Terminal}
 use Rattle.record.specs.Numbers.{flagNumber}
-use Rattle.record.specs.Record.{stateOf, recordOf, emptied}
+use Rattle.record.specs.Record.{stateOf, emptied}
 use Rattle.record.specs.Plain.{plain}
+use Rattle.inplace.specs.InPlace.{FedInPlace}
 use Rattle.pankholim.specs.Leaves.{recordLeft, StartLeaves, FeedLeaves, AskLeaves, ReadLeaves, RowLeaves, CursorLeaves}
-use Rattle.terminal.proofs.CallLaws.{asked-done, read-as, fed-broken, fed-size, fed-accepted}
+use Rattle.terminal.proofs.CallLaws.{asked-done, read-as, fed-broken, fed-size}
 use Rattle.record.proofs.RecordLaws.{state-back, state-left, state-returned}
 use Rattle.record.proofs.PlainLaws.{plain-named, plain-whole}
 use Rattle.record.proofs.EmptiedLaws.{untold, emptied-is, whole-named, told}
@@ -172,9 +174,9 @@ module _ (t : Terminal) (p : Buffers) (i o : List ℕ) where
   pub feed-takes : (s : State) → s ≡ stateOf t → wholeState (stateOf t) ≡ true → rightSizes (t .rows) p ≡ true → Taken s p
   feed-takes s es e h = rw es (record { whole = e; sizes = rw (told t (whole-named t e) .rows) h })
 
-  pub feed-done : (s : State) (d : Fed) (q : Buffers) (reply : List ℕ) (r : ℕ) (u : Terminal) → s ≡ stateOf t → Taken s p
-      → feedAs (d .answer) (d .read) (d .replied) (d .state) q reply ≡ fed s p i o → r ≡ number (d .answer) → u ≡ recordOf (d .state)
-      → FeedLeaves t (fed (stateOf t) p i o) r u q reply (d .read) (d .replied)
-  feed-done s d q reply r u es w ed er eu =
-      let kept : refusal (d .answer) ≡ false = rw (← ed) at (fed-accepted s p i o w) in
-      feed-leaves t s p i o d q reply r u es ed er (eu ∙ sym (ap (λ (x : Bool). cond x t (recordOf (d .state))) kept))
+  -- characters that were put in place
+  pub feed-put : (r : ℕ) (u : Terminal) (q : List ℕ) → length (p .line) ≡ 80 → FedInPlace t (p .page) i u q → r ≡ number Done
+      → FeedLeaves t (fed (stateOf t) p i o) r u (buffers q (p .line)) o (length i) 0
+  feed-put r u q h F er =
+      rw (er, ← F .fed-is (p .line) o h)
+      (record { answer-is = refl; state-is = refl; terminal-is = F .back; buffers-is = refl; reply-is = refl; read-is = refl; replied-is = refl })

@@ -1,5 +1,10 @@
 // The calls with the record by value: what each leaves of it is returned.
 use cells::marks::count_rows;
+use inplace::moved;
+use inplace::parsing::steered;
+use inplace::parsing::steers;
+use inplace::put_in_place;
+use inplace::takes;
 use record::Terminal;
 use record::from_state::emptied;
 use record::from_state::record_of;
@@ -17,6 +22,7 @@ use terminal::whole::is_whole;
 ghost use mathlib.Core.Path.{_≡_};
 ghost use Rattle.steps.specs.Steps.{buffers};
 ghost use Rattle.steps.specs.Whole.{wholeState};
+ghost use Rattle.terminal.specs.Answers.{number as numberOf};
 ghost use Rattle.terminal.specs.Start.{started};
 ghost use Rattle.terminal.specs.Feed.{fed};
 ghost use Rattle.terminal.specs.Ask.{asked};
@@ -53,20 +59,31 @@ pub fn start(terminal: Terminal, rows: usize, page: &mut [u16], line: &mut [u16]
     }
 }
 
-// Whether the record is that of a whole state, where `state` has all its numbers. A plain one is, and no test of its state is needed.
+// A feeding that is refused: nothing is read and nothing sent.
+fn refused(terminal: Terminal, answer: Answer, read: &mut usize, replied: &mut usize) -> Outcome
+    ensures { λ r. ⌜ (r .answer ≡ numberOf answer) × (r .terminal ≡ terminal) × (now (read .exit) ≡ 0) × (now (replied .exit) ≡ 0) ⌝ }
+{
+    *read = 0;
+    *replied = 0;
+    Outcome {
+        answer: number(answer),
+        terminal,
+    }
+}
+
+// Whether the record is that of a whole state, where `state` has all its numbers.
 fn is_whole_record(terminal: Terminal, state: State) -> bool
     requires { ⌜ state ≡ stateWith terminal (terminal .rows) ⌝ }
     ensures { λ r. ⌜ r ≡ wholeState (stateOf terminal) ⌝ }
 {
-    if is_plain(terminal) {
-        return true;
-    }
     if !named(terminal) {
         return false;
     }
     is_whole(state)
 }
 
+// A plain record is whole, and takes a few characters in place, or a byte that only moves the parser; of any other its state tells. The last record is made by a callee:
+// made here, the compiler would join its sixty fields with those of the one that is moved.
 pub fn feed(
     terminal: Terminal,
     page: &mut [u16],
@@ -80,23 +97,36 @@ pub fn feed(
         (fed (stateOf terminal) (buffers (now (page .entry)) (now (line .entry))) (now (input .entry)) (now (reply .entry)))
         (r .answer) (r .terminal) (buffers (now (page .exit)) (now (line .exit))) (now (reply .exit)) (now (read .exit)) (now (replied .exit)) ⌝ }
 {
-    let state = state_with(terminal, terminal.rows);
-    if !is_whole_record(terminal, state) {
-        *read = 0;
-        *replied = 0;
-        return Outcome {
-            answer: number(Answer::Broken),
-            terminal,
-        };
-    }
     let rows = terminal.rows as usize;
-    if (page.len() != 80 * rows) | (line.len() != 80) {
-        *read = 0;
-        *replied = 0;
-        return Outcome {
-            answer: number(Answer::WrongSize),
-            terminal,
-        };
+    let right = (page.len() == 80 * rows) & (line.len() == 80);
+    let plain = is_plain(terminal);
+    if plain & right {
+        if takes(terminal, input) {
+            let changed = put_in_place(terminal, page, input);
+            *read = input.len();
+            *replied = 0;
+            return Outcome {
+                answer: number(Answer::Done),
+                terminal: moved(terminal, input.len(), changed),
+            };
+        }
+        if steers(terminal, input) {
+            *read = input.len();
+            *replied = 0;
+            return Outcome {
+                answer: number(Answer::Done),
+                terminal: steered(terminal, input),
+            };
+        }
+    }
+    let state = state_with(terminal, terminal.rows);
+    if !plain {
+        if !is_whole_record(terminal, state) {
+            return refused(terminal, Answer::Broken, read, replied);
+        }
+    }
+    if !right {
+        return refused(terminal, Answer::WrongSize, read, replied);
     }
     let done = calls::feed_whole(state, page, line, input, reply);
     *read = done.read;
@@ -104,7 +134,7 @@ pub fn feed(
     let answer = done.answer;
     Outcome {
         answer: number(answer),
-        terminal: record_of(done.state),
+        terminal: record_left(terminal, answer, done.state),
     }
 }
 

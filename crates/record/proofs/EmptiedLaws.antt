@@ -1,11 +1,11 @@
--- A named record comes back from its state: with no row changed, the line's flag off and the unused bytes 0, it is what asking leaves.
-use mathlib.Core.Path.{_≡_, refl, ap}
+-- A named record whose unused bytes are 0 comes back from its state; so does what asking leaves, with no row changed and the line's flag off.
+use mathlib.Core.Path.{_≡_, refl, sym, ap, _∙_}
 use mathlib.Core.Bool.{Bool, true, false, cond, false≢true}
 use mathlib.Core.List.{List, [], _∷_}
 use Prim.Native.Nat.{ℕ, suc, _<_}
 use native.Mathlib.Omega.{arith}
-use lib.Dec.{eqb, ltb}
-use lib.ListN.{replicate}
+use lib.Dec.{ltb}
+use lib.ListN.{getD, replicate}
 use borrow.Author.Tests.{ltb-true}
 use Rattle.cells.specs.Cells.{setNumber, setOf}
 use Rattle.ground.proofs.TestLaws.{at-number}
@@ -142,37 +142,68 @@ status-there s e =
 abbrev pub untold : State → State
 untold s = record { displays = s .displays; tracked = record { changed = 0; flag = false } }
 
+-- the tests of its numbers
+abbrev nameTests : Terminal → List Bool
+nameTests t =
+    ltb (t .protected) 2
+    ∷ ltb (t .shift) 3
+    ∷ ltb (t .cursor .wrap) 2
+    ∷ ltb (t .parser .phase) 11
+    ∷ records.modesNamed (t .modes)
+    ∷ records.renditionNamed (t .rendition)
+    ∷ records.setsNamed (t .sets)
+    ∷ records.savedNamed (t .saved)
+    ∷ records.statusNamed (t .status)
+    ∷ ltb (t .flag) 2
+    ∷ []
+
+module _ (t : Terminal) (e : named t ≡ true) where
+  names : (k : ℕ) → getD (nameTests t) k true ≡ true
+  unfolding named
+  names = every-at (nameTests t) e
+
+  pub record-back : t .unused ≡ replicate 5 0 → recordOf (stateOf t) ≡ t
+  unfolding recordOf stateOf coreOf
+  record-back u = λ i. record {
+    changed = t .changed;
+    values = t .values;
+    tabs = t .tabs;
+    rows = cond (e i) (t .rows) 0;
+    top = t .top;
+    bottom = t .bottom;
+    protected = flag-there (t .protected) (names 0) i;
+    shift = shift-there (t .shift) (names 1) i;
+    cursor = record { row = t .cursor .row; column = t .cursor .column; wrap = flag-there (t .cursor .wrap) (names 2) i };
+    modes = modes-there (t .modes) (names 4) i;
+    rendition = rendition-there (t .rendition) (names 5) i;
+    sets = sets-there (t .sets) (names 6) i;
+    saved = saved-there (t .saved) (names 7) i;
+    parser = record {
+      phase = phase-there (t .parser .phase) (names 3) i;
+      mark = t .parser .mark;
+      first = t .parser .first;
+      second = t .parser .second;
+      separators = t .parser .separators;
+    };
+    status = status-there (t .status) (names 8) i;
+    flag = flag-there (t .flag) (names 9) i;
+    unused = sym u i;
+  }
+
+  emptied-named : named (emptied t) ≡ true
+  unfolding named emptied
+  emptied-named = rw (names 0, names 1, names 2, names 3, names 4, names 5, names 6, names 7, names 8)
+
+  untold-is : untold (stateOf t) ≡ stateOf (emptied t)
+  unfolding stateOf coreOf emptied
+  untold-is = rw (e, emptied-named)
+
+  emptied-unused : emptied t .unused ≡ replicate 5 0
+  unfolding emptied
+  emptied-unused = refl
+
 pub emptied-is : (t : Terminal) → named t ≡ true → recordOf (untold (stateOf t)) ≡ emptied t
-unfolding named recordOf stateOf coreOf emptied
-emptied-is t e =
-    let at = every-at (ltb (t .protected) 2 ∷ ltb (t .shift) 3 ∷ ltb (t .cursor .wrap) 2 ∷ ltb (t .parser .phase) 11 ∷ records.modesNamed (t .modes)
-    ∷ records.renditionNamed (t .rendition) ∷ records.setsNamed (t .sets) ∷ records.savedNamed (t .saved) ∷ records.statusNamed (t .status)
-    ∷ ltb (t .flag) 2 ∷ []) e in
-    λ i. record {
-      changed = 0;
-      values = t .values;
-      tabs = t .tabs;
-      rows = cond (e i) (t .rows) 0;
-      top = t .top;
-      bottom = t .bottom;
-      protected = flag-there (t .protected) (at 0) i;
-      shift = shift-there (t .shift) (at 1) i;
-      cursor = record { row = t .cursor .row; column = t .cursor .column; wrap = flag-there (t .cursor .wrap) (at 2) i };
-      modes = modes-there (t .modes) (at 4) i;
-      rendition = rendition-there (t .rendition) (at 5) i;
-      sets = sets-there (t .sets) (at 6) i;
-      saved = saved-there (t .saved) (at 7) i;
-      parser = record {
-        phase = phase-there (t .parser .phase) (at 3) i;
-        mark = t .parser .mark;
-        first = t .parser .first;
-        second = t .parser .second;
-        separators = t .parser .separators;
-      };
-      status = status-there (t .status) (at 8) i;
-      flag = 0;
-      unused = replicate 5 0;
-    }
+emptied-is t e = ap recordOf (untold-is t e) ∙ record-back (emptied t) (emptied-named t e) (emptied-unused t e)
 
 -- a whole state is that of a named record: where a number names nothing there are no rows
 pub whole-named : (t : Terminal) → wholeState (stateOf t) ≡ true → named t ≡ true
@@ -202,17 +233,14 @@ pub record Told (t : Terminal) : Type 0 where
   pub shown : flagNumber (stateOf t .displays .core .modes .shown) ≡ t .modes .shown
 
 pub told : (t : Terminal) → named t ≡ true → Told t
-unfolding named stateOf coreOf
+unfolding stateOf coreOf
 told t e =
-    let at = every-at (ltb (t .protected) 2 ∷ ltb (t .shift) 3 ∷ ltb (t .cursor .wrap) 2 ∷ ltb (t .parser .phase) 11 ∷ records.modesNamed (t .modes)
-    ∷ records.renditionNamed (t .rendition) ∷ records.setsNamed (t .sets) ∷ records.savedNamed (t .saved) ∷ records.statusNamed (t .status)
-    ∷ ltb (t .flag) 2 ∷ []) e in
     record {
       rows = ap (λ (b : Bool). cond b (t .rows) 0) e;
       changed = refl;
-      flag = flag-there (t .flag) (at 9);
+      flag = flag-there (t .flag) (names t e 9);
       row = refl;
       column = refl;
-      wrap = flag-there (t .cursor .wrap) (at 2);
-      shown = ap (λ (m : ModesRecord). m .shown) (modes-there (t .modes) (at 4));
+      wrap = flag-there (t .cursor .wrap) (names t e 2);
+      shown = ap (λ (m : ModesRecord). m .shown) (modes-there (t .modes) (names t e 4));
     }

@@ -1,6 +1,6 @@
 -- A plain record is named, and its state is whole.
-use mathlib.Core.Path.{_≡_, refl, ap, _∙_}
-use mathlib.Core.Bool.{Bool, true, false, cond, _&&_, _||_}
+use mathlib.Core.Path.{_≡_, refl}
+use mathlib.Core.Bool.{Bool, true, false, _&&_, _||_}
 use mathlib.Core.List.{List, [], _∷_}
 use Prim.Native.Nat.{ℕ, zero, suc, _≤_, _<_, _^_}
 use native.Mathlib.Omega.{arith}
@@ -102,7 +102,7 @@ unfolding placeTests
 few-rows t e = few-sized (t .rows) (every-at (placeTests t) e 0)
 
 -- what the tests say, in groups
-record Plain (t : Terminal) : Type 0 where
+pub record Plain (t : Terminal) : Type 0 where
   pub values : noneAbove 9999 (t .values) ≡ true
   pub parser : plainParser (t .parser) ≡ true
   pub places : every (placeTests t) ≡ true
@@ -110,7 +110,7 @@ record Plain (t : Terminal) : Type 0 where
   pub look : plainLook t ≡ true
   pub changed : ltb (t .changed) (2 ^ t .rows) ≡ true
 
-plain-facts : (t : Terminal) → plain t ≡ true → Plain t
+pub plain-facts : (t : Terminal) → plain t ≡ true → Plain t
 unfolding plain
 plain-facts t e =
     let v = noneAbove 9999 (t .values) in
@@ -135,7 +135,7 @@ module _ (t : Terminal) (w : Plain t) where
   flag-at : (k : ℕ) → getD (flagTests t) k true ≡ true
   flag-at = every-at (flagTests t) (w .flags)
 
-  off : t .cursor .wrap ≡ 0
+  pub off : t .cursor .wrap ≡ 0
   unfolding flagTests
   off = eqb-true (t .cursor .wrap) 0 (flag-at 0)
 
@@ -155,7 +155,7 @@ module _ (t : Terminal) (w : Plain t) where
   unfolding flagTests
   kept-off = eqb-true (t .status .saved .wrap) 0 (flag-at 4)
 
-  inactive : t .status .active ≡ 0
+  pub inactive : t .status .active ≡ 0
   unfolding flagTests
   inactive = eqb-true (t .status .active) 0 (flag-at 5)
 

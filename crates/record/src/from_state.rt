@@ -93,7 +93,7 @@ fn saved_record(saved: Saved) -> SavedRecord
     }
 }
 
-fn parser_record(parser: Parser) -> ParserRecord
+pub fn parser_record(parser: Parser) -> ParserRecord
     ensures { λ r. ⌜ r ≡ records.parserRecord parser ⌝ }
 {
     let phase = parser.phase;

@@ -3,6 +3,7 @@
 use crate::RenditionRecord;
 use crate::SetsRecord;
 use crate::Terminal;
+use core::whole::is_sized;
 use ground::tests::between;
 ghost use mathlib.Core.Path.{_≡_};
 ghost use mathlib.Core.Bool.{_&&_};
@@ -77,7 +78,7 @@ fn plain_places(terminal: Terminal) -> bool
     let saved = terminal.saved.cursor;
     let status = terminal.status;
     let kept = status.saved;
-    ((rows == 24) | (rows == 36) | (rows == 48))
+    is_sized(rows)
         & between(1, cursor.row, rows)
         & between(1, saved.row, rows)
         & (1 <= terminal.top)

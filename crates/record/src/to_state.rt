@@ -92,7 +92,7 @@ fn saved_of(saved: SavedRecord) -> Saved
     }
 }
 
-fn parser_of(parser: ParserRecord, values: [u16; 16]) -> Parser
+pub fn parser_of(parser: ParserRecord, values: [u16; 16]) -> Parser
     ensures { λ r. ⌜ r ≡ records.parserOf parser values ⌝ }
 {
     let params = Params {

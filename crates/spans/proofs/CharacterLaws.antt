@@ -13,7 +13,7 @@ use lib.ListN.{length, getD, take, drop, set, length-drop}
 use lib.Seq.{paste, paste-zero, getD-drop}
 use denote.Enum.Declared.{tagOf}
 use types.Run.{OneOf, miss}
-use borrow.Author.Tests.{le-leb, lt-leb, lt-ltb, le-ltb, ne-eqb, not-true}
+use borrow.Author.Tests.{le-leb, lt-leb, lt-ltb, le-ltb, eqb-true, ne-eqb, not-true}
 use Rattle.ground.proofs.ListLaws.{split-lt, getD-map}
 use Rattle.ground.proofs.TestLaws.{and-left, and-right, or-cases, between-low, between-high}
 use Rattle.ground.specs.Tests.{between}
@@ -24,10 +24,12 @@ use Rattle.cells.specs.Runs.{isCharacter, penWord}
 use Rattle.cells.specs.Sets.{bitsOf, changed}
 use Rattle.cells.specs.Segments.{Pasted}
 use Rattle.cells.proofs.BitLaws.{bit-or-assoc}
+use Rattle.cells.proofs.ChangeLaws.{changed-none}
 use Rattle.cells.proofs.Storing.{pasted-up}
 use Rattle.page.specs.declared.Edit.{Edit}
-use Rattle.page.specs.declared.Edit.the-variants.{Put, InsertCells}
+use Rattle.page.specs.declared.Edit.the-variants.{Keep, Put, InsertCells}
 use Rattle.page.specs.Writes.{Edited, Fits, AppliedOver}
+use Rattle.page.proofs.EditLaws.{keep-applied}
 use Rattle.page.proofs.KnownRows.{edited-over}
 use Rattle.page.proofs.OneRow.{put-edited}
 use Rattle.parser.specs.declared.phases.Phase.the-variants.{Ground}
@@ -43,7 +45,7 @@ use Rattle.device.specs.Cursor.{advance}
 use Rattle.core.specs.declared.Core.{Core}
 use Rattle.core.specs.Effects.{withCursor, withShift, oneEdit}
 use Rattle.core.specs.Geometry.{rightStop, stopsOf}
-use Rattle.core.specs.Glyphs.{usedSet, skipped, glyph}
+use Rattle.core.specs.Glyphs.{usedSet, isEdge, skipped, glyph}
 use Rattle.core.specs.Pens.{penOf}
 use Rattle.core.proofs.PenLaws.{pen-glyph}
 use Rattle.vt.specs.Printing.{putEdit, put, printed}
@@ -76,7 +78,7 @@ shifted Ss3 h = refl
 -- 20 to 7E or A1 to FE
 record Character (b : ℕ) : Type 0 where
   graphic-is : graphic b ≡ true
-  shown : ((eqb b 0x7F || eqb b 0xA0) || eqb b 0xFF) ≡ false
+  shown : isEdge b ≡ false
 
 character-is : (b : ℕ) → isCharacter b ≡ true → Character b
 character-is b e = or-cases (between 0x20 b 0x7E) (between 0xA1 b 0xFE) e
@@ -85,7 +87,7 @@ character-is b e = or-cases (between 0x20 b 0x7E) (between 0xA1 b 0xFE) e
     (λ h. let l = between-low 0xA1 b 0xFE h in let u = between-high 0xA1 b 0xFE h in
     record { graphic-is = rw (le-leb 0x20 b (omega arith), lt-leb b 0x9F (omega arith), and-false (leb 0x80 b)); shown = other (omega arith) })
   where
-    other : (b ≡ 0x7F → ⊥) × (b ≡ 0xA0 → ⊥) × (b ≡ 0xFF → ⊥) → ((eqb b 0x7F || eqb b 0xA0) || eqb b 0xFF) ≡ false
+    other : (b ≡ 0x7F → ⊥) × (b ≡ 0xA0 → ⊥) × (b ≡ 0xFF → ⊥) → isEdge b ≡ false
     other (x, y, z) = rw (ne-eqb b 0x7F x, ne-eqb b 0xA0 y, ne-eqb b 0xFF z)
 
 -- ---- one character
@@ -125,6 +127,27 @@ module _ (c : Core) (b : ℕ) (plain : printsDirectly c ≡ true) (char : isChar
   -- put, or in insert mode inserted
   print-decides : (t : Bool) (w : ℕ) → c .modes .insert ≡ t → w ≡ glyph c b → oneEdit (advanced c) (putEdit t (stopsOf c) (c .cursor) w) ≡ decided c b
   print-decides t w et ew = ap₂ (λ (x : Bool) (y : ℕ). oneEdit (advanced c) (putEdit x (stopsOf c) (c .cursor) y)) (sym et) ew ∙ put-decides
+
+-- one that its set ignores does nothing, whatever shift is pending
+edge-graphic : (b : ℕ) → isEdge b ≡ true → graphic b ≡ true
+edge-graphic b e =
+    or-cases (eqb b 0x7F || eqb b 0xA0) (eqb b 0xFF) e (λ h. or-cases (eqb b 0x7F) (eqb b 0xA0) h (is 0x7F refl) (is 0xA0 refl)) (is 0xFF refl)
+  where
+    is : (k : ℕ) → graphic k ≡ true → eqb b k ≡ true → graphic b ≡ true
+    is k g h = rw (eqb-true b k h) g
+
+module _ (c : Core) (n : ℕ) (p : List ℕ) (b : ℕ) (P : Paged c p) (ground : c .parser .phase ≡ Ground) (none : skipped (usedSet c b) b ≡ true) where
+  drawn : graphic b ≡ true
+  drawn = edge-graphic b (and-right (not (has96 (usedSet c b))) (isEdge b) none)
+
+  ignored : oneEdit c Keep ≡ decided c b
+  unfolding printed
+  ignored = rw none at (plain-decides c b ground drawn)
+
+  pub edge-done : ByteDone c n p b c n p
+  edge-done =
+      done-by c n p b c Keep p n P (ap (λ (d : Decoded). isEventful (d .action)) (plain-decode (c .parser) b ground drawn)) ignored refl
+      (sym (keep-applied (c .rows) p (P .size))) (sym (ap (bitOr n) (changed-none (c .rows) p) ∙ or-zero-r n))
 
 module _ (c : Core) (n : ℕ) (p : List ℕ) (b : ℕ) (D : Direct c p) (char : isCharacter b ≡ true) (w : ℕ) (ew : w ≡ glyph c b) where
   pub insert-fits : Fits (c .rows) (InsertCells (c .cursor .row - 1) (c .cursor .column - 1) 80 1 w) p

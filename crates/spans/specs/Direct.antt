@@ -6,12 +6,15 @@ use Rattle.cells.specs.Runs.{isCharacter}
 use Rattle.scrolling.specs.Lines.{allKnown}
 use Rattle.parser.specs.Phases.{isGround}
 use Rattle.core.specs.declared.Core.{Core}
+use Rattle.core.specs.Glyphs.{isEdge, usedSet, skipped}
 use Rattle.dispatch.specs.Touches.{isDirect}
 use Rattle.spans.specs.Characters.{isUnshifted}
 
--- a character with no shift pending and no wrap due, or a control that moves the cursor alone or does nothing
+-- a character with no shift pending and no wrap due, one that its set ignores, or a control that moves the cursor alone or does nothing
 abbrev pub actsDirectly : Core → ℕ → Bool
-actsDirectly c b = isGround (c .parser .phase) && cond (isCharacter b) (isUnshifted (c .shift) && not (c .cursor .wrap)) (isDirect b)
+actsDirectly c b =
+    isGround (c .parser .phase) && cond (isCharacter b) (isUnshifted (c .shift) && not (c .cursor .wrap))
+    (cond (isEdge b) (skipped (usedSet c b) b) (isDirect b))
 
 -- in the bottom margin's row, insert mode and autowrap off, no shift pending, and all rows that scroll are known to have changed
 abbrev pub scrollsLines : Core → ℕ → Bool

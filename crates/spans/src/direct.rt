@@ -6,11 +6,14 @@ use cells::runs::Pen;
 use cells::runs::is_character;
 use core::Core;
 use core::geometry::left_stop;
+use core::glyphs::is_edge;
+use core::glyphs::skipped;
+use core::glyphs::used_set;
 use device::charsets::SingleShift;
 use device::cursor::Cursor;
 use dispatch::touches::control_touch;
 use dispatch::touches::is_direct;
-use page::edits::change;
+use page::edits::apply;
 use parser::phases::is_ground;
 use scrolling::all_known;
 use scrolling::lines_ahead;
@@ -33,6 +36,8 @@ const LF: u8 = 0x0A;
 
 const CR: u8 = 0x0D;
 
+const ESC: u8 = 0x1B;
+
 fn is_unshifted(shift: SingleShift) -> bool
     ensures { λ r. ⌜ r ≡ isUnshifted shift ⌝ }
 {
@@ -42,24 +47,31 @@ fn is_unshifted(shift: SingleShift) -> bool
     }
 }
 
-// A character with no shift pending and no wrap due, or a control.
+// A character with no shift pending and no wrap due, one that is ignored, or a control. ESC is none, and is told first: it is what
+// most often follows.
 pub fn acts_directly(core: Core, byte: u8) -> bool
     ensures { λ r. ⌜ r ≡ actsDirectly core byte ⌝ }
 {
     let parser = core.parser;
     let phase = parser.phase;
     let shift = core.shift;
+    if byte == ESC {
+        return false;
+    }
     if !is_ground(phase) {
         return false;
     }
     if is_character(byte) {
         return is_unshifted(shift) & !core.cursor.wrap;
     }
+    if is_edge(byte) {
+        let sets = core.sets;
+        return skipped(used_set(sets, shift, byte), byte);
+    }
     is_direct(byte)
 }
 
-// A control that moves the cursor, or does nothing. (Where `apply` is called here, which first looks whether there is an edit, a call
-// takes 32 bytes of stack more.)
+// A control that moves the cursor, or does nothing.
 fn control_step(core: Core, changed: u64, byte: u8, page: &mut [u16]) -> Moved
     requires { ⌜ Paged core (now page) × (core .parser .phase ≡ Ground) × (isDirect byte ≡ true) ⌝ }
     ensures { λ r. ⌜ ByteDone core changed (now (page .entry)) byte (withCursor core (r .cursor)) (r .changed) (now (page .exit)) ⌝ }
@@ -69,7 +81,7 @@ fn control_step(core: Core, changed: u64, byte: u8, page: &mut [u16]) -> Moved
     let edit = touch.edit;
     Moved {
         cursor,
-        changed: change(edit, page, core.rows, changed),
+        changed: apply(edit, page, core.rows, changed),
     }
 }
 
@@ -156,6 +168,14 @@ pub fn act_directly(
         let cursor = core.cursor;
         return Characters {
             cursor: cursor.to_column(left_stop(core)),
+            changed,
+            next: from + 1,
+        };
+    }
+    if is_edge(byte) {
+        let cursor = core.cursor;
+        return Characters {
+            cursor,
             changed,
             next: from + 1,
         };

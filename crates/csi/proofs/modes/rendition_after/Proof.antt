@@ -1,12 +1,12 @@
 -- The loop's invariant: the rest of the parameters, from here, gives what all of them give from the start. What is joined gives nothing.
 use mathlib.Core.Path.{_≡_, refl}
 use mathlib.Core.List.{List, [], _∷_}
-use borrow.Author.Tests.{eqb-true}
+use borrow.Author.Tests.{eqb-true, lt-ltb}
 use borrow.Author.Needs.{needs}
-use Prim.Native.Nat.{ℕ, _-_}
+use Prim.Native.Nat.{ℕ, _-_, _<_}
 use lib.Dec.{eqb}
-use lib.ListN.{length, drop}
-use Rattle.parser.specs.Params.{joined, paramList, numbers}
+use lib.ListN.{length, getD, take, drop}
+use Rattle.parser.specs.Params.{joined, paramCount, param, numbers}
 use Rattle.cells.specs.declared.Rendition.{Rendition}
 use Rattle.ground.proofs.TestLaws.{either}
 use Rattle.ground.specs.Folds.{folded}
@@ -27,32 +27,35 @@ numbers-render (v ∷ vs) r =
     (λ _. numbers-render vs (rendered r v))
 
 abbrev Inv-loop : tie.InvT-loop
-Inv-loop rendition₀ params count i₀ rendition i =
-    folded rendered rendition (drop i (paramList params)) ≡ folded rendered rendition₀ (paramList params)
+Inv-loop rendition₀ count values i₀ rendition i =
+    folded rendered rendition (drop i (take count values)) ≡ folded rendered rendition₀ (take count values)
 
 abbrev μ-loop : tie.MeasureT-loop
-μ-loop rendition₀ params count i₀ rendition i = count - i
+μ-loop rendition₀ count values i₀ rendition i = count - i
 
 loop-again : tie.Need-loop-again Inv-loop μ-loop
 loop-again c =
-    let here = c .before .before .before in
-    let start = here .before .before in
-    let good = start .good .1 .0 in
-    let full : length (start .args .params .values) ≡ 16 = search needs in
-    let more = list-more (start .args .params) (here .loop .i) full (rw (here .before .count .ensures) at (c .before .before .loop-test .taken)) in
-    rw (c .render .ensures, c .before .get .ensures) (rw more at (here .loop .inv))
+    let l = c .before .before in
+    let n = l .before .before in
+    let q = n .before .args .params in
+    let good = n .before .good .1 .0 in
+    let full : length (q .values) ≡ 16 = search needs in
+    let few : l .loop .i < paramCount q = rw (n .count .ensures) at (c .before .loop-test .taken) in
+    let read : param q (l .loop .i) ≡ getD (q .values) (l .loop .i) 0 = rw (lt-ltb (l .loop .i) (paramCount q) few) in
+    rw (c .render .ensures, n .count .ensures, ← read) (rw (n .count .ensures, list-more q (l .loop .i) full few) at (l .loop .inv))
 
 returns : tie.Need-returns Inv-loop μ-loop
 returns c =
-    let here = c .before in
-    let start = here .before .before in
-    let good = start .good .1 .0 in
-    let full : length (start .args .params .values) ≡ 16 = search needs in
-    let end = list-end (start .args .params) (here .loop .i) full (rw (here .before .count .ensures) at (c .loop-test .left)) in
-    rw (numbers-render, ← here .loop .inv, end)
+    let l = c .before in
+    let n = l .before .before in
+    let q = n .before .args .params in
+    let good = n .before .good .1 .0 in
+    let full : length (q .values) ≡ 16 = search needs in
+    let end = list-end q (l .loop .i) full (rw (n .count .ensures) at (c .loop-test .left)) in
+    rw (numbers-render, ← (rw (n .count .ensures) at (l .loop .inv)), end)
 
 pub rendition-after-spec : {M : Type 1} → statement M
 rendition-after-spec =
     tie.close (tie.spec
-    Inv-loop μ-loop (λ c κs. search needs) (λ c. refl) (λ c κs. search needs) (λ c κs. search needs) (λ c. search needs) (λ c. search needs) loop-again
-    returns)
+    Inv-loop μ-loop (λ c κs. search needs) (λ c. search needs) (λ c. refl) (λ c. search needs) (λ c. search needs) (λ c κs. search needs) (λ c. search needs)
+    (λ c. search needs) loop-again returns)

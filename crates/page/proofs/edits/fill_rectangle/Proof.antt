@@ -8,4 +8,4 @@ use Rattle.page.proofs.edits.fill_rectangle.Tie as tie
 pub fill-rectangle-spec : {M : Type 1} → statement M
 fill-rectangle-spec =
     tie.close (tie.spec (λ c κs. search needs) (λ c. search needs)
-    (λ c. block-edited (c .before .before .fill-rows .ensures) _ (λ j l h. refl)))
+    (λ c. let O = c .before .before .fill-rows .ensures in record { redone = block-edited (O .redone) _ (λ j l h. refl); marked = O .marked }))

@@ -1,13 +1,12 @@
 -- The rows that move and those that blanks enter are two blocks, and together they are the rows from `top` to `end`.
-use mathlib.Core.Path.{refl, ap}
-use lib.Bits.{bitOr}
+use mathlib.Core.Path.{refl}
 use mathlib.Core.Logic.{inl, inr, ⊎-elim}
 use Prim.Native.Nat.{ℕ, _+_, _-_, _≤_, _<_}
 use native.Mathlib.Omega.{arith}
 use lib.Dec.{leb}
 use borrow.Author.Tests.{le-leb, lt-leb}
 use Rattle.page.proofs.Blocks.{scrolled}
-use Rattle.page.proofs.KnownRows.{redone-own, over-join}
+use Rattle.page.proofs.KnownRows.{over-join}
 use borrow.Author.Needs.{needs}
 use Rattle.page.proofs.edits.scroll_down.Statement.{statement}
 use Rattle.page.proofs.edits.scroll_down.Tie as tie
@@ -20,9 +19,9 @@ returns c =
     let top : ℕ = s .args .top in
     let end : ℕ = s .args .end in
     let n : ℕ = s .args .count in
-    over-join (moved .lower-rows .ensures) (ap (bitOr (moved .lower-rows .result)) (entered .fill-rows .ensures .marked))
+    over-join (moved .lower-rows .ensures) (entered .fill-rows .ensures .marked)
     (scrolled (s .args .left) (s .args .right) (λ j. j - n) (moved .lower-rows .ensures .redone)
-    (redone-own (entered .fill-rows .ensures)) top end (λ j. leb (top + n) j)
+    (entered .fill-rows .ensures .redone) top end (λ j. leb (top + n) j)
     (λ j a b. (omega arith, b, le-leb (top + n) j a))
     (λ j a b. (a, omega arith, lt-leb (top + n) j b, inl b))
     (λ j o o'. ⊎-elim (λ (b : j < top + n). ⊎-elim (λ (d : j < top). inl d) (λ (d : top + n ≤ j). absurd (omega arith)) o') (λ (b : end ≤ j). inr b) o))

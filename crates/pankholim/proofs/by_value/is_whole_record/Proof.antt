@@ -1,4 +1,4 @@
--- A plain record is whole; one with a number that names nothing is not; of any other its state tells.
+-- One with a number that names nothing is not whole; of any other its state tells.
 use mathlib.Core.Path.{_≡_, refl, sym, ap, _∙_}
 use mathlib.Core.Bool.{Bool, true, false, false≢true}
 use borrow.Author.Tests.{not-true, not-false}
@@ -6,7 +6,6 @@ use borrow.Author.Needs.{needs}
 use Rattle.steps.specs.Whole.{wholeState}
 use Rattle.record.specs.declared.Terminal.{Terminal}
 use Rattle.record.specs.Record.{named, stateOf}
-use Rattle.record.proofs.PlainLaws.{plain-whole}
 use Rattle.record.proofs.EmptiedLaws.{named-with, whole-named}
 use Rattle.pankholim.proofs.by_value.is_whole_record.Statement.{statement}
 use Rattle.pankholim.proofs.by_value.is_whole_record.Tie as tie
@@ -19,21 +18,18 @@ unnamed t e = go (wholeState (stateOf t)) refl
     go false h = refl
 
 returns : tie.Need-returns
-returns c = sym (plain-whole (c .before .before .args .terminal) (sym (c .before .is-plain .ensures) ∙ c .if1 .taken))
+returns c =
+    let n = c .before in
+    unnamed (n .before .args .terminal) (sym (n .named .ensures) ∙ not-true (n .named .result) (c .if1 .taken))
 
 returns-2 : tie.Need-returns-2
 returns-2 c =
-    let n = c .before in
-    unnamed (n .before .before .before .args .terminal) (sym (n .named .ensures) ∙ not-true (n .named .result) (c .if2 .taken))
-
-returns-3 : tie.Need-returns-3
-returns-3 c =
     let no = c .before in
     let n = no .before in
-    let start = n .before .before .before in
+    let start = n .before in
     let t = start .args .terminal in
-    c .is-whole .ensures ∙ ap wholeState (start .pre ∙ named-with t (sym (n .named .ensures) ∙ not-false (n .named .result) (no .if2 .left)))
+    c .is-whole .ensures ∙ ap wholeState (start .pre ∙ named-with t (sym (n .named .ensures) ∙ not-false (n .named .result) (no .if1 .left)))
 
 pub is-whole-record-spec : {M : Type 1} → statement M
 is-whole-record-spec =
-    tie.close (tie.spec (λ c κs. search needs) returns (λ c κs. search needs) returns-2 (λ c κs. search needs) returns-3)
+    tie.close (tie.spec (λ c κs. search needs) returns (λ c κs. search needs) returns-2)

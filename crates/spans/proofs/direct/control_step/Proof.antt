@@ -9,8 +9,8 @@ use Rattle.spans.proofs.ActionLaws.{action-within, action-done}
 use Rattle.spans.proofs.direct.control_step.Statement.{statement}
 use Rattle.spans.proofs.direct.control_step.Tie as tie
 
-change-requires : tie.Need-change-requires
-change-requires c κs =
+apply-requires : tie.Need-apply-requires
+apply-requires c κs =
     let t = c .before .before in
     let start = t .before .before in
     let core = start .args .core in
@@ -32,8 +32,8 @@ returns c =
     let b = start .args .byte in
     action-done core (start .args .page .now) b (core .parser) (controlAction b) (withCursor core (t .control-touch .result .cursor)) _ (start .pre .0)
     (direct-decode (core .parser) b (start .pre .1) (start .pre .2)) (t .control-touch .ensures)
-    (start .args .changed) (a .change .last .1 .0) (a .change .result) (direct-quiet b (start .pre .2)) refl (a .change .ensures .page) (a .change .ensures .marked)
+    (start .args .changed) (a .apply .last .1 .0) (a .apply .result) (direct-quiet b (start .pre .2)) refl (a .apply .ensures .page) (a .apply .ensures .marked)
 
 pub control-step-spec : {M : Type 1} → statement M
 control-step-spec =
-    tie.close (tie.spec (λ c κs. (c .before .pre .0 .whole .parts .bounds, c .before .pre .2)) change-requires (λ c. search needs) returns)
+    tie.close (tie.spec (λ c κs. (c .before .pre .0 .whole .parts .bounds, c .before .pre .2)) apply-requires (λ c. search needs) returns)
