@@ -1,7 +1,7 @@
 -- A property that every word of a list has, its parts have, and what is put together of lists that have it.
 use mathlib.Core.Bool.{Bool, cond}
 use mathlib.Core.List.{List, [], ◌∷◌, ◌++◌, map}
-use Prim.Native.Nat.{ℕ, zero, suc, ◌+◌, ◌-◌}
+use Prim.Native.Nat.{ℕ, zero, suc}
 use lib.ListN.{take, drop, set, replicate}
 use lib.Seq.{paste}
 use Rattle.ground.proofs.TestLaws.{either}

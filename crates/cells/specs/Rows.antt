@@ -1,5 +1,5 @@
 -- A page is a list of words, rows of 80 one after the other. Rows and columns are counted from 0 here.
-use Rattle.std.specs.Prelude.{Bool, true, false, not, ◌||◌, List, [], ◌∷◌, ◌++◌, ℕ, zero, suc, ◌+◌, ◌*◌, eqb, get_or, take, drop}
+use Rattle.std.specs.Prelude.{Bool, true, false, not, ◌||◌, List, [], ◌∷◌, ◌++◌, ℕ, zero, suc, ◌*◌, eqb, get_or, take, drop}
 
 -- row k of a page
 abbrev pub row : List ℕ → ℕ → List ℕ

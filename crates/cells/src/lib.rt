@@ -1,4 +1,6 @@
 // What a cell holds, as a word, and what becomes of it; segments of words; sets of rows.
+#![tactic(auto)]
+
 pub mod marks;
 pub mod runs;
 pub mod segments;
@@ -11,7 +13,7 @@ pub const COLUMNS: usize = 80;
 pub const BLANK: u16 = 0x20;
 
 // The character sets. The first three have 94 signs, Latin-1 has 96.
-#[derive(Drop)]
+#[derive(Clone, Copy)]
 pub enum CharSet {
     Ascii,
     SpecialGraphics,
@@ -20,7 +22,7 @@ pub enum CharSet {
 }
 
 // The visual attributes that SGR selects.
-#[derive(Drop)]
+#[derive(Clone, Copy)]
 pub struct Rendition {
     pub bold: bool,
     pub underline: bool,
@@ -29,7 +31,7 @@ pub struct Rendition {
 }
 
 // A cell, taken apart. Of the code, the lowest seven bits count.
-#[derive(Drop)]
+#[derive(Clone, Copy)]
 pub struct Cell {
     pub code: u8,
     pub set: CharSet,
@@ -38,7 +40,7 @@ pub struct Cell {
 }
 
 // What becomes of one attribute.
-#[derive(Drop)]
+#[derive(Clone, Copy)]
 pub enum Setting {
     Same,
     On,
@@ -47,7 +49,7 @@ pub enum Setting {
 }
 
 // What becomes of each attribute.
-#[derive(Drop)]
+#[derive(Clone, Copy)]
 pub struct Styling {
     pub bold: Setting,
     pub underline: Setting,
@@ -56,7 +58,7 @@ pub struct Styling {
 }
 
 // What becomes of a cell, by what it holds.
-#[derive(Drop)]
+#[derive(Clone, Copy)]
 pub enum CellChange {
     // A space of ASCII that keeps its flags, unless the cell is protected.
     SelectiveErase,

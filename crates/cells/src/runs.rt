@@ -8,7 +8,7 @@ use ground::tests::between;
 
 // What characters are put with: the word of a code of GL is `left` and the code, of GR `right` and the code, of the
 // byte 20 `space`. From `low` on, 20 or 21, GL's are alike.
-#[derive(Drop)]
+#[derive(Clone, Copy)]
 pub struct Pen {
     pub left: u16,
     pub right: u16,
@@ -17,7 +17,7 @@ pub struct Pen {
 }
 
 // How many characters were put, and whether a cell changed.
-#[derive(Drop)]
+#[derive(Clone, Copy)]
 pub struct Put {
     pub count: usize,
     pub changed: bool,

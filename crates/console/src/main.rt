@@ -1,6 +1,8 @@
 // Reads standard input into a 24-row page, and writes the page as 24 lines; with the argument `line`, the status line's text
 // as one line more. Replies go nowhere. With another argument, and where the input cannot be read to its end, it says so and
 // writes no page.
+#![tactic(auto)]
+
 ghost use Rattle.std.specs.Prelude.{◌≡◌, ◌+◌, ◌*◌, ◌<◌, ◌≤◌, length};
 ghost use Rattle.std.proofs.lemmas.List.Edits.{sets};
 ghost use Rattle.steps.specs.Ready.{Ready};
@@ -8,20 +10,22 @@ ghost use Rattle.steps.specs.Steps.{buffers};
 ghost use Rattle.text.specs.Text.{text_of};
 ghost use Rattle.console.specs.Feeding.{RanOver};
 
-use libc::{EINTR, STDERR_FILENO, STDIN_FILENO, STDOUT_FILENO};
+use std::env::{Env, FillError};
+use std::io;
+use std::io::{ErrorKind, Read, Write};
 use steps::State;
 use terminal::calls::{feed, start};
 use text::Written;
 
 // What the last read told: there may be more, the input ended, or it cannot be read.
-#[derive(Drop)]
+#[derive(Clone, Copy)]
 enum Reading {
     More,
     Ended,
     Failed,
 }
 
-#[derive(Drop)]
+#[derive(Clone, Copy)]
 struct Session {
     state: State,
     reading: Reading,
@@ -50,8 +54,17 @@ fn feed_all(
     newest
 }
 
-// Reads once, and feeds what came. A read that a signal interrupted is tried again.
+// A read that a signal interrupted is tried again.
+fn after_failure(kind: ErrorKind) -> Reading {
+    match kind {
+        ErrorKind::Interrupted => Reading::More,
+        _ => Reading::Failed,
+    }
+}
+
+// Reads once, and feeds what came.
 fn read_some(
+    reader: &mut impl Read,
     state: State,
     page: &mut [u16],
     line: &mut [u16],
@@ -61,29 +74,19 @@ fn read_some(
     requires { Ready state page.old × (length line.old ≡ 80) × (11 ≤ length reply.old) }
     ensures { Ready result.state page.new }
 {
-    let got = libc::read(STDIN_FILENO, buffer);
-    if got < 0 {
-        if os::errno() == EINTR {
-            return Session {
-                state,
-                reading: Reading::More,
-            };
-        }
-        return Session {
-            state,
-            reading: Reading::Failed,
-        };
-    }
-    if got == 0 {
-        return Session {
+    match reader.read(buffer) {
+        Ok(0) => Session {
             state,
             reading: Reading::Ended,
-        };
-    }
-    let n = io::count(got, buffer);
-    Session {
-        state: feed_all(state, page, line, &buffer[..n], reply),
-        reading: Reading::More,
+        },
+        Ok(n) => Session {
+            state: feed_all(state, page, line, &buffer[..n], reply),
+            reading: Reading::More,
+        },
+        Err(e) => Session {
+            state,
+            reading: after_failure(e.kind()),
+        },
     }
 }
 
@@ -101,6 +104,7 @@ fn turns_left(reading: Reading, turns: u64) -> u64
 
 // Reads until the input ends or cannot be read.
 fn read_all(
+    reader: &mut impl Read,
     state: State,
     page: &mut [u16],
     line: &mut [u16],
@@ -116,7 +120,7 @@ fn read_all(
     };
     let mut turns = u64::MAX;
     while 0 < turns {
-        session = read_some(session.state, page, line, buffer, reply);
+        session = read_some(reader, session.state, page, line, buffer, reply);
         let reading = session.reading;
         turns = turns_left(reading, turns);
     }
@@ -124,77 +128,82 @@ fn read_all(
 }
 
 // The text of a row has at most 241 bytes, so it is always written whole. `rows` is there for the promise alone.
-fn write_rows(rows: usize, cells: &[u16], out: &mut [u8])
+fn write_rows(writer: &mut impl Write, rows: usize, cells: &[u16], out: &mut [u8]) -> io::Result<()>
     requires { (length cells.now ≡ 80 * rows) × (80 * 3 * rows + rows ≤ length out.old) }
     ensures { out.new ≡ sets out.old 0 (text_of rows cells.now) }
 {
     match text::write_text(cells, out) {
-        Written::Complete { len } => {
-            io::write_all(STDOUT_FILENO, &out[..len]);
-        }
-        Written::TooSmall => {}
+        Written::Complete { len } => writer.write_all(&out[..len]),
+        Written::TooSmall => Ok(()),
     }
 }
 
 // Reads all of standard input, and writes the page, and the line if that is asked for.
-fn show(line_too: bool) {
+fn show(rt: &(impl Input + Print + Eprint), line_too: bool) -> io::Result<()> {
     let mut page = [0u16; 1920];
     let mut line = [0u16; 80];
-    let mut buffer = io::large_buffer();
+    let mut buffer = [0u8; 65536];
     let mut reply = [0u8; 64];
     let mut out = [0u8; 5784];
+    let mut reader = rt.reader();
+    let mut writer = io::writer(rt);
     let begun = start(24, &mut page, &mut line);
     let state = begun.state;
-    let session = read_all(state, &mut page, &mut line, &mut buffer, &mut reply);
+    let session = read_all(
+        &mut reader,
+        state,
+        &mut page,
+        &mut line,
+        &mut buffer,
+        &mut reply,
+    );
     let reading = session.reading;
     match reading {
         Reading::Ended => {
-            write_rows(24, &page, &mut out);
+            write_rows(&mut writer, 24, &page, &mut out)?;
             if line_too {
-                write_rows(1, &line, &mut out);
+                write_rows(&mut writer, 1, &line, &mut out)?;
             }
+            Ok(())
         }
-        _ => {
-            io::write_all(STDERR_FILENO, b"console: cannot read standard input\n");
-        }
+        _ => rt.eprintln("console: cannot read standard input"),
     }
 }
 
 // What the arguments ask for: the page, page and line, or nothing that there is.
-#[derive(Drop)]
+#[derive(Clone, Copy)]
 enum Wanted {
     Page,
     PageAndLine,
     Unknown,
 }
 
-// The program's name counts as an argument. One that is longer than `line` does not fit, and has length 0.
-fn asked_for() -> Wanted {
-    let count = os::arg_count();
-    if count < 2 {
-        return Wanted::Page;
-    }
+// The program's name is argument 0. An argument that is longer than `line` does not fit.
+fn asked_for(rt: &impl Env) -> Wanted {
     let mut word = [0u8; 4];
-    let n = os::arg(1, &mut word);
-    if (count == 2) & (n == 4) & is_line(word) {
-        return Wanted::PageAndLine;
+    match rt.arg(1, &mut word) {
+        Err(FillError::NotPresent) => Wanted::Page,
+        Ok(4) if is_line(word) && is_alone(rt) => Wanted::PageAndLine,
+        _ => Wanted::Unknown,
     }
-    Wanted::Unknown
 }
 
 fn is_line(word: [u8; 4]) -> bool {
     (word[0] == b'l') & (word[1] == b'i') & (word[2] == b'n') & (word[3] == b'e')
 }
 
-fn main() {
-    match asked_for() {
-        Wanted::Page => show(false),
-        Wanted::PageAndLine => show(true),
-        Wanted::Unknown => {
-            io::write_all(
-                STDERR_FILENO,
-                b"console: the only argument is the word line\n",
-            );
-        }
+// Whether no argument comes after the first.
+fn is_alone(rt: &impl Env) -> bool {
+    match rt.arg(2, &mut []) {
+        Err(FillError::NotPresent) => true,
+        _ => false,
+    }
+}
+
+fn main(rt: HostRuntime) -> io::Result<()> {
+    match asked_for(&rt) {
+        Wanted::Page => show(&rt, false),
+        Wanted::PageAndLine => show(&rt, true),
+        Wanted::Unknown => rt.eprintln("console: the only argument is the word line"),
     }
 }

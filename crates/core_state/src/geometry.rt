@@ -8,7 +8,7 @@ use ground::numbers::pick;
 
 // ---- columns: printing, moves, tabs, inserts and scrolls keep between these
 
-#[derive(Drop)]
+#[derive(Clone, Copy)]
 pub struct Stops {
     pub left: u8,
     pub right: u8,

@@ -1,5 +1,7 @@
 // The state of the terminal but for what is tracked of cells: fresh, whole, where things stop, the cell that a byte puts, the
 // status line as a page of one row, and what a byte does to it.
+#![tactic(auto)]
+
 pub mod effects;
 pub mod fresh;
 pub mod geometry;
@@ -16,7 +18,7 @@ use page::Edit;
 use parser::parser::Parser;
 
 // Rows T to B scroll.
-#[derive(Drop)]
+#[derive(Clone, Copy)]
 pub struct Margins {
     pub top: u8,
     pub bottom: u8,
@@ -24,7 +26,7 @@ pub struct Margins {
 
 // `shown` is the cursor's (DECTCEM); `eightbit` sends a reply's CSI as one byte (S8C1T); with `rectangle` the
 // attributes of a rectangle are changed, else those of a stream (DECSACE).
-#[derive(Drop)]
+#[derive(Clone, Copy)]
 pub struct Modes {
     pub insert: bool,
     pub newline: bool,
@@ -36,7 +38,7 @@ pub struct Modes {
 }
 
 // What ESC 7 saves (DECSC).
-#[derive(Drop)]
+#[derive(Clone, Copy)]
 pub struct Saved {
     pub cursor: Cursor,
     pub rendition: Rendition,
@@ -46,7 +48,7 @@ pub struct Saved {
     pub shift: SingleShift,
 }
 
-#[derive(Drop)]
+#[derive(Clone, Copy)]
 pub struct Core {
     pub rows: u8,
     pub cursor: Cursor,
@@ -62,7 +64,7 @@ pub struct Core {
 }
 
 // What ESC 7 saves while the status line is active: a line has one row and no origin.
-#[derive(Drop)]
+#[derive(Clone, Copy)]
 pub struct LineSaved {
     pub column: u8,
     pub wrap: bool,
@@ -74,7 +76,7 @@ pub struct LineSaved {
 
 // The host-writable status line but for its cells: whether there is one (DECSSDT), whether bytes act on it (DECSASD),
 // where its cursor is, and what is saved of it.
-#[derive(Drop)]
+#[derive(Clone, Copy)]
 pub struct StatusLine {
     pub present: bool,
     pub active: bool,
@@ -84,7 +86,7 @@ pub struct StatusLine {
 }
 
 // All of the state that decides what a byte does: the core, which is the page's, and the line.
-#[derive(Drop)]
+#[derive(Clone, Copy)]
 pub struct Displays {
     pub core: Core,
     pub line: StatusLine,
@@ -92,7 +94,7 @@ pub struct Displays {
 
 // What a byte does: the next core, and the edits of its one or two steps, `Keep` where a step leaves
 // the page.
-#[derive(Drop)]
+#[derive(Clone, Copy)]
 pub struct Decision {
     pub core: Core,
     pub first: Edit,

@@ -12,7 +12,7 @@ use ground::numbers::{capped, pick_wide};
 use page::Edit;
 
 // A range of cells in reading order: it ends before `to`.
-#[derive(Drop)]
+#[derive(Clone, Copy)]
 struct Range {
     from: u16,
     to: u16,

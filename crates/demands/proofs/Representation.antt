@@ -1,14 +1,11 @@
 -- The representation: each statement is a law of the crate that has the definition.
-use Rattle.std.proofs.Common.{◌≡◌, ℕ, ◌-◌, ◌/◌, ◌%◌, ◌^◌, ◌<◌, ◌≤◌, min, sym, refl, ap, ◌∙◌, subst, ⊎_elim, arith}
-use native.Mathlib.Nat.{min-le_left}
+use Rattle.std.proofs.Common.{ℕ, ◌-◌, ◌/◌, ◌%◌, ◌^◌, ◌<◌, sym, refl, ap, ◌∙◌, subst, arith}
 use Rattle.cells.specs.Cells.{unpacked}
 use Rattle.cells.proofs.CellLaws.{cell-back, same_word, packed-small, set_at, blank-packed, erased-protected, erased-other, spaced-back, spaced-small}
 use Rattle.cells.proofs.CellLaws.{restyled-back, restyled-small}
 use Rattle.demands.specs.Representation.{CellBack, SameWord, UnusedZero, DocumentedBits, BlankWord, SelectiveErasure, Restyling, TenBytes, TabSet}
 use Rattle.demands.specs.Representation.{TabCleared, TabsNone, TabsFresh, TabNext, Decimals}
-use Rattle.device.specs.Tabs.{next_tab}
 use Rattle.device.proofs.TabLaws as tabs
-use Rattle.ground.proofs.ListLaws.{split-lt}
 use Rattle.ground.proofs.DecimalLaws.{decimal-value, decimal-digits, decimal-first, some-digit, decimal-length}
 use Rattle.core_state.specs.Fresh.{fresh_core}
 
@@ -68,22 +65,13 @@ unfolding fresh_core
 fresh-tabs r = tabs.fresh-tabs
 
 pub next-is-first : TabNext
-next-is-first u t stop h l =
-    let c = u.column in
-    let n = 80 - c in
-    let low = tabs.next_low n t c in
-    let right = tabs.next-right n t c in
-    record {
-      right = λ m. let r = right (omega arith) in omega arith;
-      stays = omega arith;
-      within = min-le_left stop (next_tab t c);
-      between = λ d a b. tabs.next-first n t c d a (omega (arith, b));
-      stops = ⊎_elim
-          (λ (m : next_tab t c < stop).
-          let found : min stop (next_tab t c) ≡ next_tab t c = omega (arith, m) in
-          rw found (λ e. let last = tabs.next_last n t c e in omega (arith, m)))
-          (λ (m : stop ≤ next_tab t c). λ e. omega (arith, m)) (split-lt (next_tab t c) stop);
-    }
+next-is-first t c last h = record {
+  right = λ l. tabs.next-right (last - c) t c (omega arith);
+  stays = tabs.next_low (last - c) t c;
+  within = omega (arith, tabs.next-high (last - c) t c);
+  between = λ d l m. tabs.next-first (last - c) t c d l m;
+  stops = λ e. let q = tabs.next_last (last - c) t c e in omega arith;
+}
 
 -- ---- decimals
 

@@ -6,10 +6,8 @@ use Rattle.cells.specs.declared.Cell.{Cell}
 use Rattle.cells.specs.declared.Styling.{Styling}
 use Rattle.cells.specs.Cells.{packed, unpacked, plain_cell, blank, selectively_erased, styled, restyled}
 use Rattle.cells.specs.Sets.{has_bit}
-use Rattle.device.specs.declared.cursor.Cursor.{Cursor}
 use Rattle.device.specs.declared.tabs.Tabs.{Tabs}
-use Rattle.device.specs.Tabs.{is_tab, with_tab, without_tab, no_tabs, tabs_up_to}
-use Rattle.device.specs.Cursor.{tab}
+use Rattle.device.specs.Tabs.{is_tab, with_tab, without_tab, no_tabs, next_tab, tabs_up_to}
 use Rattle.ground.specs.Decimals.{decimal, value_of}
 use Rattle.terminal.specs.Start.{fresh}
 
@@ -100,17 +98,16 @@ TabsNone = (d : ℕ) → Column d → is_tab no_tabs d ≡ false
 abbrev pub TabsFresh : Type 0
 TabsFresh = (r : ℕ) → tabs_up_to 80 (fresh r).displays.core.tabs ≡ 9 ∷ 17 ∷ 25 ∷ 33 ∷ 41 ∷ 49 ∷ 57 ∷ 65 ∷ 73 ∷ []
 
--- HT goes right, to its stop at most, where it stays; no flag is set on the way, and where it stops one is set, or it is the stop, which is the
--- last column or one before it.
-pub record FirstRight (t : Tabs) (c stop r : ℕ) : Type 0 where
-  pub right : c < stop → c < r
+-- HT goes right, to the last column at most, where it stays; no flag is set on the way, and where it stops one is set, or it is the last column.
+pub record FirstRight (t : Tabs) (c last r : ℕ) : Type 0 where
+  pub right : c < last → c < r
   pub stays : c ≤ r
-  pub within : r ≤ stop
+  pub within : r ≤ last
   pub between : (d : ℕ) → c < d → d < r → is_tab t d ≡ false
-  pub stops : is_tab t r ≡ false → r ≡ stop
+  pub stops : is_tab t r ≡ false → r ≡ last
 
 abbrev pub TabNext : Type 0
-TabNext = (u : Cursor) (t : Tabs) (stop : ℕ) → u.column ≤ stop → stop ≤ 80 → FirstRight t u.column stop (tab u t stop).column
+TabNext = (t : Tabs) (c last : ℕ) → c ≤ last → FirstRight t c last (next_tab t c last)
 
 -- ---- decimals
 

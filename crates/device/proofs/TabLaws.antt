@@ -6,6 +6,7 @@ use mathlib.Core.List.{[], ◌∷◌}
 use mathlib.Core.Logic.{⊎_elim}
 use Prim.Native.Nat.{ℕ, zero, suc, ◌+◌, ◌-◌, ◌/◌, ◌%◌, ◌≤◌, ◌<◌, ◌^◌}
 use native.Mathlib.Nat.{pow-succ', div-div-eq-div-mul, add-div_right, zero-div}
+use native.Mathlib.Numerals.{add-one}
 use native.Mathlib.Omega.{arith}
 use lib.Dec.{eqb, eqb-zero-suc, eqb-suc-zero, eqb-suc-suc}
 use lib.ListN.{length, length-set, get_or-replicate}
@@ -117,6 +118,17 @@ unfolding tabs_up_to
 fresh-tabs = refl
 
 -- ---- the next tab
+
+-- one column of the search
+pub next-step : (t : Tabs) (at last : ℕ) → at < last
+    → next_among (last - at) t at ≡ cond (is_tab t (at + 1)) (at + 1) (next_among (last - (at + 1)) t (at + 1))
+unfolding next_among
+next-step t at last h = let less : last - at ≡ suc (last - suc at) = omega arith in rw (add-one, less)
+
+-- the search ends at the last column
+pub next-none : (t : Tabs) (at last : ℕ) → last ≤ at → next_among (last - at) t at ≡ at
+unfolding next_among
+next-none t at last h = let none : last - at ≡ 0 = omega arith in rw none
 
 pub next_low : (n : ℕ) (t : Tabs) (c : ℕ) → c ≤ next_among n t c
 unfolding next_among

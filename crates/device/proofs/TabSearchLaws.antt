@@ -3,7 +3,7 @@
 use mathlib.Core.Path.{◌≡◌, refl, sym, ap, ◌∙◌}
 use mathlib.Core.Bool.{Bool, true, false, cond, not, ◌||◌, false≢true}
 use mathlib.Core.List.{[], ◌∷◌}
-use Prim.Native.Nat.{ℕ, zero, suc, ◌+◌, ◌-◌, ◌*◌, ◌/◌, ◌%◌, ◌^◌, ◌≤◌, ◌<◌}
+use Prim.Native.Nat.{ℕ, zero, suc, ◌+◌, ◌-◌, ◌*◌, ◌/◌, ◌%◌, ◌^◌, ◌≤◌, ◌<◌, min, max}
 use native.Mathlib.Nat.{add_assoc, zero-add, add-zero, add-suc, suc-add, zero-div}
 use native.Mathlib.Numerals.{add-one}
 use native.Mathlib.Omega.{arith}
@@ -15,7 +15,8 @@ use Rattle.cells.proofs.BitLaws.{bits-own, bits-ext, bits_none}
 use Rattle.ground.proofs.TestLaws.{either, or_left, or_right}
 use Rattle.device.specs.declared.tabs.Tabs.{Tabs}
 use Rattle.device.specs.declared.tabs.Found.{Found}
-use Rattle.device.specs.Tabs.{is_tab, next_among}
+use Rattle.device.specs.Tabs.{is_tab, next_among, next_tab}
+use Rattle.device.proofs.TabLaws.{next_low}
 use Rattle.device.specs.TabSearch.{after, ends_at, any_among, flag_by_flag, eight_by_eight, searched, EverySearch}
 
 -- ---- a look at eight together
@@ -202,3 +203,23 @@ so-few t c n f e = omega (arith, ap (λ (g : Found). g.looks) e, (every-search t
 pub all-looks : searched (record { flags = 0 ∷ 0 ∷ 0 ∷ 0 ∷ 0 ∷ 0 ∷ 0 ∷ 0 ∷ 0 ∷ 128 ∷ [] }) 1 ≡ record { column = 80; looks = 24 }
 unfolding flag_by_flag eight_by_eight any_among
 all-looks = refl
+
+-- ---- held to a stop
+
+-- of the search to a later column, up to a column before that
+cut : (n k : ℕ) (t : Tabs) (c : ℕ) → min (c + n) (next_among (n + k) t c) ≡ next_among n t c
+unfolding next_among
+cut zero k t c = omega (arith, next_low (0 + k) t c)
+cut (suc n) k t c =
+    rw (suc-add n k)
+    (either (λ (x : ℕ). min (c + suc n) x ≡ next_among (suc n) t c) (is_tab t (suc c))
+    (λ e. rw e (omega arith))
+    (λ e. rw (e, add-suc c n, ← suc-add c n) (cut n k t (suc c))))
+
+pub search-held : (t : Tabs) (c last : ℕ) → c < last → last ≤ 80 → max 0 (min last (searched t c).column) ≡ next_tab t c last
+search-held t c last l h =
+    let here : c + (last - c) ≡ last = omega arith in
+    let all : (last - c) + (80 - last) ≡ 80 - c = omega arith in
+    let found = (every-search t c).same in
+    let same : min last (next_among (80 - c) t c) ≡ next_among (last - c) t c = rw (here, all) at (cut (last - c) (80 - last) t c) in
+    rw found (omega (arith, same))

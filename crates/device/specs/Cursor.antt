@@ -23,9 +23,9 @@ right u n stop = place u.row (min stop (u.column + n))
 abbrev pub to_column : Cursor → ℕ → Cursor
 to_column u c = place u.row c
 
--- HT: the next tab, else the last column, but not beyond the stop
+-- HT: the next tab, else the last column
 abbrev pub tab : Cursor → Tabs → ℕ → Cursor
-tab u t stop = place u.row (min stop (next_tab t u.column))
+tab u t last = place u.row (next_tab t u.column last)
 
 -- IND without its scroll: at the bottom margin and in the last row it stays
 abbrev pub index : Cursor → ℕ → ℕ → Cursor

@@ -37,7 +37,7 @@ searched t c = let near = (80 - c) % 8 in flag_by_flag near t c (eight_by_eight 
 
 -- The same answers, and no search takes more than 24 looks.
 pub record Quick (t : Tabs) (c : ℕ) : Type 0 where
-  pub same : (searched t c).column ≡ next_tab t c
+  pub same : (searched t c).column ≡ next_tab t c 80
   pub few : (searched t c).looks ≤ 24
 
 abbrev pub EverySearch : Type 0

@@ -30,8 +30,8 @@ next_among (suc n) t c =
     cond (is_tab t (suc c)) (suc c) more
 
 -- the next tab right of column c, else the last column
-abbrev pub next_tab : Tabs → ℕ → ℕ
-next_tab t c = next_among (80 - c) t c
+abbrev pub next_tab : Tabs → ℕ → ℕ → ℕ
+next_tab t c last = next_among (last - c) t c
 
 -- the columns 1 to n that have a tab
 unfoldable pub tabs_up_to : ℕ → Tabs → List ℕ

@@ -5,7 +5,7 @@ ghost use Rattle.device.specs.Charsets.{register_number, register_of, shift_numb
 
 use cells::CharSet;
 
-#[derive(Drop)]
+#[derive(Clone, Copy)]
 pub enum Register {
     G0,
     G1,
@@ -14,14 +14,14 @@ pub enum Register {
 }
 
 // A pending single shift.
-#[derive(Drop)]
+#[derive(Clone, Copy)]
 pub enum SingleShift {
     NoShift,
     Ss2,
     Ss3,
 }
 
-#[derive(Drop)]
+#[derive(Clone, Copy)]
 pub struct Sets {
     pub g0: CharSet,
     pub g1: CharSet,

@@ -7,7 +7,7 @@ use ground::numbers::{back, held, on};
 
 // Row and column are counted from 1. `wrap` is "wrap due" (SCOPE 6): the last column was filled,
 // and the next character goes to the next line first.
-#[derive(Drop)]
+#[derive(Clone, Copy)]
 pub struct Cursor {
     pub row: u8,
     pub column: u8,
@@ -65,12 +65,12 @@ impl Cursor {
         self
     }
 
-    // HT: the next tab, else the last column, but not beyond the stop.
-    pub fn tab(mut self, tabs: Tabs, stop: u8) -> Self
-        ensures { result ≡ moves.tab self tabs stop }
+    // HT: the next tab, else the last column.
+    pub fn tab(mut self, tabs: Tabs, last: u8) -> Self
+        requires { last ≤ 80 }
+        ensures { result ≡ moves.tab self tabs last }
     {
-        let found = tabs.next(self.column);
-        self.column = held(found.column, 0, stop);
+        self.column = tabs.next(self.column, last);
         self.wrap = false;
         self
     }

@@ -12,7 +12,7 @@ use ground::writing::{write_byte, write_bytes};
 
 // ---- the replies
 
-#[derive(Drop)]
+#[derive(Clone, Copy)]
 pub enum Reply {
     Silent,
     // DA: a VT420 with selective erase.

@@ -1,16 +1,18 @@
 // The tab stops.
 ghost use Rattle.std.specs.Prelude.{◌≡◌, ◌+◌, ◌%◌, ◌≤◌, ◌<◌, ◌^◌};
-ghost use Rattle.device.specs.Tabs.{is_tab, with_tab, without_tab, no_tabs};
+ghost use Rattle.device.specs.Tabs.{is_tab, with_tab, without_tab, no_tabs, next_tab};
 ghost use Rattle.device.specs.TabSearch.{any_among, searched};
 
+use ground::numbers::held;
+
 // Eighty flags, eight to a byte: column 1 is the lowest bit of the first byte.
-#[derive(Drop)]
+#[derive(Clone, Copy)]
 pub struct Tabs {
     pub flags: [u8; 10],
 }
 
 // Where a search for the next tab ended, and how many looks it took: at one flag, or at eight together.
-#[derive(Drop)]
+#[derive(Clone, Copy)]
 pub struct Found {
     pub column: u8,
     pub looks: u8,
@@ -83,7 +85,7 @@ impl Tabs {
 
     // The next tab right of a column, else the last column. Where an eight begins it is looked at as a whole, and passed
     // over if it has no tab. Each look stands beside its count, and the flags are read by `get` and `any` alone.
-    pub fn next(self, column: u8) -> Found
+    pub fn search(self, column: u8) -> Found
         ensures { result ≡ searched self column }
     {
         let mut at = column;
@@ -105,5 +107,17 @@ impl Tabs {
             }
         }
         Found { column: at, looks }
+    }
+
+    // HT: the next tab right of a column, else the last column.
+    pub fn next(self, column: u8, last: u8) -> u8
+        requires { last ≤ 80 }
+        ensures { result ≡ next_tab self column last }
+    {
+        if last <= column {
+            return column;
+        }
+        let found = self.search(column);
+        held(found.column, 0, last)
     }
 }

@@ -22,7 +22,7 @@ use vt::controls::{
 };
 
 // Where the cursor goes, and the edit.
-#[derive(Drop)]
+#[derive(Clone, Copy)]
 pub struct Touch {
     pub cursor: Cursor,
     pub edit: Edit,

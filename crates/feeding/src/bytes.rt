@@ -22,7 +22,7 @@ use steps::{State, Tracked};
 
 // What a byte that may draw a reply or tell the line something asks for, and nothing of any other; how many bytes are in the
 // reply buffer; and whether its reply does not fit.
-#[derive(Drop)]
+#[derive(Clone, Copy)]
 pub struct Heeded {
     pub action: Action,
     pub replied: usize,
@@ -31,7 +31,7 @@ pub struct Heeded {
 
 // How many bytes of the input were read, how many were written to the reply buffer, and whether
 // reading stopped before a reply that does not fit.
-#[derive(Drop)]
+#[derive(Clone, Copy)]
 pub struct FedBytes {
     pub state: State,
     pub read: usize,
@@ -140,8 +140,8 @@ pub fn feed_bytes(
     reply: &mut [u8],
 ) -> FedBytes
     requires { Ready state page.old × (length cells.old ≡ 80) }
-    ensures* { λ r. ⌜ record { result = r; buffers = buffers page.new cells.new; reply = reply.new }
-        ≡ bytes_fed state (buffers page.old cells.old) input.now reply.old ⌝ }
+    ensures { record { result = result; buffers = buffers page.new cells.new; reply = reply.new }
+        ≡ bytes_fed state (buffers page.old cells.old) input.now reply.old }
 {
     let mut core = state.displays.core;
     let mut line = state.displays.line;

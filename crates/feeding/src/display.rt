@@ -8,7 +8,7 @@ use spans::parts::feed_parts;
 use steps::byte::step;
 
 // The core after bytes, the changed rows, whether autowrap was on all along, and how many were read.
-#[derive(Drop)]
+#[derive(Clone, Copy)]
 pub struct Run {
     pub core: Core,
     pub changed: u64,

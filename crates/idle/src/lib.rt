@@ -1,4 +1,6 @@
 // Bytes that only move the parser: ESC; CSI, its private mark and its parameters; what opens a string, and its text.
+#![tactic(auto)]
+
 ghost use Rattle.std.specs.Prelude.{◌≡◌, true, false, ◌&&◌, ◌≤◌, eqb, ltb, length, get_or};
 ghost use Rattle.idle.specs.Idle.{gathers, opens, is_text, begun, Separated, Skipped, AfterCsi};
 ghost use Rattle.parser.specs.Phases.{takes_parameters, is_string};
@@ -13,7 +15,7 @@ use parser::phases::{CSI_ENTRY, ESCAPE, Phase, is_string, phase_number, takes_pa
 use parser::rules::opens_string;
 
 // The parser after such bytes, and the place of the next byte.
-#[derive(Drop)]
+#[derive(Clone, Copy)]
 pub struct Idle {
     pub parser: Parser,
     pub next: usize,

@@ -1,4 +1,6 @@
 // A few characters, put with the numbers of a plain record as it lies: no state is made.
+#![tactic(auto)]
+
 pub mod parsing;
 
 ghost use Rattle.std.specs.Prelude.{◌≡◌, ℕ, ◌+◌, ◌*◌, ◌≤◌, true, map, length};

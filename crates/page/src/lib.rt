@@ -1,4 +1,6 @@
 // The page: its rows, and the edits that a step makes.
+#![tactic(auto)]
+
 pub mod edits;
 pub mod rows;
 
@@ -7,7 +9,7 @@ use cells::CellChange;
 // What one step does to a page. Rows and columns are counted from 0, and a range ends before its
 // `end`, `right` or `to`. `from` and `to` count cells in reading order. The scope moves whole rows,
 // columns 0 to 80, and cells up to the row's end; the ranges are there for margins to come.
-#[derive(Drop)]
+#[derive(Clone, Copy)]
 pub enum Edit {
     Keep,
     // A word into one cell.

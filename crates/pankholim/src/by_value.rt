@@ -25,7 +25,7 @@ use terminal::whole::is_whole;
 use terminal::{Answer, calls};
 
 // The number of an answer, and the record that a call leaves.
-#[derive(Drop)]
+#[derive(Clone, Copy)]
 pub struct Outcome {
     pub answer: u8,
     pub terminal: Terminal,

@@ -1,4 +1,6 @@
 // The terminal for C: one record per modem, changed where it lies.
+#![tactic(auto)]
+
 mod by_value;
 
 ghost use Rattle.std.specs.Prelude.{◌≡◌, length};

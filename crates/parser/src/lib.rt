@@ -1,4 +1,6 @@
 // The parser: parameters, phases, and what a byte asks for.
+#![tactic(auto)]
+
 pub mod families;
 pub mod params;
 pub mod parser;

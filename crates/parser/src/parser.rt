@@ -11,7 +11,7 @@ use ground::numbers::pick;
 use ground::tests::between;
 
 // `mark` is 0 where the sequence has none, and 80 more with subparameters (families.rt). `first` and `second` are the intermediates.
-#[derive(Drop)]
+#[derive(Clone, Copy)]
 pub struct Parser {
     pub phase: Phase,
     pub mark: u8,
@@ -21,7 +21,7 @@ pub struct Parser {
 }
 
 // What a byte asks the terminal to do. An intermediate or a mark that is not there is 0.
-#[derive(Drop)]
+#[derive(Clone, Copy)]
 pub enum Action {
     Nothing,
     Character {
@@ -47,7 +47,7 @@ pub enum Action {
     },
 }
 
-#[derive(Drop)]
+#[derive(Clone, Copy)]
 pub struct Decoded {
     pub parser: Parser,
     pub action: Action,

@@ -3,7 +3,7 @@ ghost use Rattle.std.specs.Prelude.{◌≡◌};
 ghost use Rattle.parser.specs.Phases as phases;
 
 // Where the parser stands. The phase tells how many of the intermediates count.
-#[derive(Drop)]
+#[derive(Clone, Copy)]
 pub enum Phase {
     Ground,
     Escape,
@@ -19,7 +19,7 @@ pub enum Phase {
 }
 
 // What is done with a byte.
-#[derive(Drop)]
+#[derive(Clone, Copy)]
 pub enum Op {
     Ignore,
     // A graphic character in ground.
@@ -43,7 +43,7 @@ pub enum Op {
 }
 
 // The range rules: the next phase and what is done, by the phase and the byte alone.
-#[derive(Drop)]
+#[derive(Clone, Copy)]
 pub struct Transition {
     pub next: Phase,
     pub op: Op,

@@ -1,11 +1,13 @@
 // A terminal as C holds it: numbers alone, so that any bytes are a record.
+#![tactic(auto)]
+
 pub mod from_state;
 pub mod numbers;
 pub mod plain;
 pub mod to_state;
 
 #[repr(C)]
-#[derive(Drop)]
+#[derive(Clone, Copy)]
 pub struct CursorRecord {
     pub row: u8,
     pub column: u8,
@@ -13,7 +15,7 @@ pub struct CursorRecord {
 }
 
 #[repr(C)]
-#[derive(Drop)]
+#[derive(Clone, Copy)]
 pub struct ModesRecord {
     pub insert: u8,
     pub newline: u8,
@@ -25,7 +27,7 @@ pub struct ModesRecord {
 }
 
 #[repr(C)]
-#[derive(Drop)]
+#[derive(Clone, Copy)]
 pub struct RenditionRecord {
     pub bold: u8,
     pub underline: u8,
@@ -34,7 +36,7 @@ pub struct RenditionRecord {
 }
 
 #[repr(C)]
-#[derive(Drop)]
+#[derive(Clone, Copy)]
 pub struct SetsRecord {
     pub g0: u8,
     pub g1: u8,
@@ -45,7 +47,7 @@ pub struct SetsRecord {
 }
 
 #[repr(C)]
-#[derive(Drop)]
+#[derive(Clone, Copy)]
 pub struct SavedRecord {
     pub cursor: CursorRecord,
     pub rendition: RenditionRecord,
@@ -56,7 +58,7 @@ pub struct SavedRecord {
 }
 
 #[repr(C)]
-#[derive(Drop)]
+#[derive(Clone, Copy)]
 pub struct ParserRecord {
     pub phase: u8,
     pub mark: u8,
@@ -66,7 +68,7 @@ pub struct ParserRecord {
 }
 
 #[repr(C)]
-#[derive(Drop)]
+#[derive(Clone, Copy)]
 pub struct LineSavedRecord {
     pub column: u8,
     pub wrap: u8,
@@ -77,7 +79,7 @@ pub struct LineSavedRecord {
 }
 
 #[repr(C)]
-#[derive(Drop)]
+#[derive(Clone, Copy)]
 pub struct StatusRecord {
     pub present: u8,
     pub active: u8,
@@ -88,7 +90,7 @@ pub struct StatusRecord {
 
 // The last bytes are always written 0 and never looked at: with them every byte is a field's.
 #[repr(C)]
-#[derive(Drop)]
+#[derive(Clone, Copy)]
 pub struct Terminal {
     pub changed: u64,
     pub values: [u16; 16],

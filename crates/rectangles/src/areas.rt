@@ -11,7 +11,7 @@ use parser::params::Params;
 const LAST: u8 = COLUMNS as u8;
 
 // Rows and columns count from 1, and the edges are inside.
-#[derive(Drop)]
+#[derive(Clone, Copy)]
 pub struct Area {
     pub top: u8,
     pub left: u8,

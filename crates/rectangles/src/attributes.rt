@@ -6,7 +6,7 @@ use cells::{Setting, Styling};
 use parser::params::Params;
 
 // What a list makes of a cell's attributes, and whether a value of it is one of the function's.
-#[derive(Drop)]
+#[derive(Clone, Copy)]
 pub struct Restyling {
     pub styling: Styling,
     pub listed: bool,

@@ -1,4 +1,6 @@
 // Lines of text at the bottom margin: several scrolls done as one, where all rows that scroll are known to have changed.
+#![tactic(auto)]
+
 ghost use Rattle.std.specs.Prelude.{◌≡◌, cond, ◌+◌, ◌-◌, ◌≤◌, ◌<◌, min, length};
 ghost use Rattle.page.specs.declared.Edit.TheVariants.{ScrollUp};
 ghost use Rattle.page.specs.Edits.{applied};
@@ -21,7 +23,7 @@ const CR: u8 = 0x0D;
 const BLOCK: usize = 16;
 
 // Text up to a place, and its line feeds.
-#[derive(Drop)]
+#[derive(Clone, Copy)]
 pub struct Ahead {
     pub feeds: u8,
     pub to: usize,

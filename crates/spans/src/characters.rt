@@ -18,7 +18,7 @@ use page::edits::{change, put};
 use page::rows::place;
 
 // Where the cursor went, the changed rows, and the place of the next byte.
-#[derive(Drop)]
+#[derive(Clone, Copy)]
 pub struct Characters {
     pub cursor: Cursor,
     pub changed: u64,
@@ -26,7 +26,7 @@ pub struct Characters {
 }
 
 // Where one byte's cursor went, and the changed rows.
-#[derive(Drop)]
+#[derive(Clone, Copy)]
 pub struct Moved {
     pub cursor: Cursor,
     pub changed: u64,

@@ -23,7 +23,7 @@ use parser::parser::Parser;
 use parser::phases::{Phase, takes_parameters};
 
 // The parts after such bytes, the changed rows, and the place of the next byte.
-#[derive(Drop)]
+#[derive(Clone, Copy)]
 pub struct Parts {
     pub cursor: Cursor,
     pub rendition: Rendition,

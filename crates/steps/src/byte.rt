@@ -10,7 +10,7 @@ use page::edits::apply;
 use parser::parser::Decoded;
 
 // The core after a byte, and the changed rows.
-#[derive(Drop)]
+#[derive(Clone, Copy)]
 pub struct AfterByte {
     pub core: Core,
     pub changed: u64,

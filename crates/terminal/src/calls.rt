@@ -37,8 +37,8 @@ fn fresh(rows: u8) -> State
 
 // Starts a page of 24, 36 or 48 rows: every cell of page and line blank, the state fresh.
 pub fn start(rows: usize, page: &mut [u16], line: &mut [u16]) -> Started
-    ensures* { λ r. ⌜ record { number = number r.answer; result = r; buffers = buffers page.new line.new }
-        ≡ starting.started rows (buffers page.old line.old) ⌝ }
+    ensures { record { number = number result.answer; result = result; buffers = buffers page.new line.new }
+        ≡ starting.started rows (buffers page.old line.old) }
 {
     if !((rows == 24) | (rows == 36) | (rows == 48)) {
         return Started {
@@ -79,8 +79,8 @@ pub fn feed_whole(
     reply: &mut [u8],
 ) -> Fed
     requires { Taken state (buffers page.old line.old) }
-    ensures* { λ r. ⌜ record { number = number r.answer; result = r; buffers = buffers page.new line.new; reply = reply.new }
-        ≡ fed state (buffers page.old line.old) input.now reply.old ⌝ }
+    ensures { record { number = number result.answer; result = result; buffers = buffers page.new line.new; reply = reply.new }
+        ≡ fed state (buffers page.old line.old) input.now reply.old }
 {
     let done = feed_bytes(state, page, line, input, reply);
     let after = done.state;
@@ -94,8 +94,8 @@ pub fn feed_whole(
 
 // Feeds bytes from the modem, until the input ends or a reply does not fit.
 pub fn feed(state: State, page: &mut [u16], line: &mut [u16], input: &[u8], reply: &mut [u8]) -> Fed
-    ensures* { λ r. ⌜ record { number = number r.answer; result = r; buffers = buffers page.new line.new; reply = reply.new }
-        ≡ fed state (buffers page.old line.old) input.now reply.old ⌝ }
+    ensures { record { number = number result.answer; result = result; buffers = buffers page.new line.new; reply = reply.new }
+        ≡ fed state (buffers page.old line.old) input.now reply.old }
 {
     if !is_whole(state) {
         return Fed {
@@ -119,7 +119,7 @@ pub fn feed(state: State, page: &mut [u16], line: &mut [u16], input: &[u8], repl
 
 // Asks for the changed rows and the line's flag, empties the set and clears the flag.
 pub fn ask(state: State) -> Asked
-    ensures* { λ r. ⌜ record { number = number r.answer; result = r } ≡ asked state ⌝ }
+    ensures { record { number = number result.answer; result = result } ≡ asked state }
 {
     if !is_whole(state) {
         return Asked {
@@ -150,7 +150,7 @@ pub fn ask(state: State) -> Asked
 
 // Reads a cell of a page of so many rows.
 pub fn read_cell(rows: u8, page: &[u16], row: usize, column: usize) -> CellRead
-    ensures* { λ r. ⌜ record { number = number r.answer; result = r } ≡ read_gives (page_answer rows page.now row column) page.now row column ⌝ }
+    ensures { record { number = number result.answer; result = result } ≡ read_gives (page_answer rows page.now row column) page.now row column }
 {
     let rows = rows as usize;
     if page.len() != 80 * rows {
@@ -175,7 +175,7 @@ pub fn read_cell(rows: u8, page: &[u16], row: usize, column: usize) -> CellRead
 
 // Reads a cell of the page by its row and column, counted from 1.
 pub fn read(state: State, page: &[u16], row: usize, column: usize) -> CellRead
-    ensures* { λ r. ⌜ record { number = number r.answer; result = r } ≡ cell_read state page.now row column ⌝ }
+    ensures { record { number = number result.answer; result = result } ≡ cell_read state page.now row column }
 {
     if !is_whole(state) {
         return CellRead {
@@ -188,7 +188,7 @@ pub fn read(state: State, page: &[u16], row: usize, column: usize) -> CellRead
 
 // Reads the page's cursor: its row and column, counted from 1, whatever origin mode says.
 pub fn cursor(state: State) -> CursorRead
-    ensures* { λ r. ⌜ record { number = number r.answer; result = r } ≡ cursor_read state ⌝ }
+    ensures { record { number = number result.answer; result = result } ≡ cursor_read state }
 {
     if !is_whole(state) {
         return CursorRead {

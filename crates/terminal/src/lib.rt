@@ -1,4 +1,6 @@
 // The terminal's calls: start, feed, ask for the changed rows, read a cell, a row, the cursor.
+#![tactic(auto)]
+
 use steps::State;
 
 pub mod answers;
@@ -7,7 +9,7 @@ pub mod rows;
 pub mod whole;
 
 // What a call answers. The numbers are in specs/Answers.antt (SCOPE 2).
-#[derive(Drop)]
+#[derive(Clone, Copy)]
 pub enum Answer {
     Done,
     // The state is not whole, or, at a start, there is no page of so many rows.
@@ -18,14 +20,14 @@ pub enum Answer {
     OffPage,
 }
 
-#[derive(Drop)]
+#[derive(Clone, Copy)]
 pub struct Started {
     pub answer: Answer,
     pub state: State,
 }
 
 // How many bytes of the input were read, and how many were written to the reply buffer.
-#[derive(Drop)]
+#[derive(Clone, Copy)]
 pub struct Fed {
     pub answer: Answer,
     pub read: usize,
@@ -34,7 +36,7 @@ pub struct Fed {
 }
 
 // The changed rows, how many they are, and the line's flag.
-#[derive(Drop)]
+#[derive(Clone, Copy)]
 pub struct Asked {
     pub answer: Answer,
     pub rows: u64,
@@ -43,14 +45,14 @@ pub struct Asked {
     pub state: State,
 }
 
-#[derive(Drop)]
+#[derive(Clone, Copy)]
 pub struct CellRead {
     pub answer: Answer,
     pub word: u16,
 }
 
 // Where the cursor is on the page, whether a wrap is due, and whether it is shown.
-#[derive(Drop)]
+#[derive(Clone, Copy)]
 pub struct CursorRead {
     pub answer: Answer,
     pub row: u8,

@@ -1,4 +1,6 @@
 // The page as text: a line for each row, trailing spaces off, in UTF-8.
+#![tactic(auto)]
+
 mod lines;
 mod signs;
 mod utf8;
@@ -11,7 +13,7 @@ ghost use Rattle.ground.specs.Writes.{Wrote};
 use crate::lines::{line_len, write_line};
 
 // What writing a page as text answers.
-#[derive(Drop)]
+#[derive(Clone, Copy)]
 pub enum Written {
     // So many bytes were written.
     Complete { len: usize },
@@ -60,7 +62,7 @@ fn write_rows(page: &[u16], out: &mut [u8]) -> usize
 
 // Writes the text of a page into a buffer, whole or not at all.
 pub fn write_text(page: &[u16], out: &mut [u8]) -> Written
-    ensures* { λ r. ⌜ record { number = written_number r; result = r; buffer = out.new } ≡ written page.now out.old ⌝ }
+    ensures { record { number = written_number result; result = result; buffer = out.new } ≡ written page.now out.old }
 {
     if out.len() < text_len(page) {
         return Written::TooSmall;

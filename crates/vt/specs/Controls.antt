@@ -46,7 +46,7 @@ reverse_indexed c = one_edit (with_cursor c (reverse_index c.cursor c.margins.to
 abbrev pub backspaced : Core → Decision
 backspaced c = unedited (with_cursor c (left c.cursor 1 (left_stop c)))
 
--- HT: the next tab, else the last column, but not beyond the right stop
+-- HT: the next tab, else the right stop
 abbrev pub tabbed : Core → Decision
 tabbed c = unedited (with_cursor c (tab c.cursor c.tabs (right_stop c)))
 

@@ -97,7 +97,7 @@ pub fn backspace(mut core: Core) -> Decision
     unedited(core)
 }
 
-// HT: the next tab, else the last column, but not beyond the right stop.
+// HT: the next tab, else the right stop.
 pub fn horizontal_tab(mut core: Core) -> Decision
     ensures { result ≡ controls.tabbed core }
 {

@@ -52,7 +52,7 @@ fn put_edit(insert: bool, stops: Stops, cursor: Cursor, word: u16) -> Edit
 // ---- the printing rule, over the parts of a core that it reads
 
 // Where the cursor goes, and the edits.
-#[derive(Drop)]
+#[derive(Clone, Copy)]
 pub struct Printed {
     pub cursor: Cursor,
     pub first: Edit,

@@ -109,7 +109,7 @@ module _ (c : Core) (p : Parts c) where
 
   pub fine-tab : Fine c (tab c.cursor c.tabs (right_stop c))
   fine-tab =
-      let steps = 80 - c.cursor.column in
+      let steps = right_stop c - c.cursor.column in
       let low = next_low steps c.tabs c.cursor.column in
       let high = next-high steps c.tabs c.cursor.column in
       placed-inside (own c p) (omega arith) (omega arith)

@@ -42,6 +42,7 @@ raise-none-above m k (y ∷ l) h e =
 -- what is read is not above it
 at-none-above : (m n : ℕ) (l : List ℕ) (i : ℕ) → none_above m (take n l) ≡ true → i < n → get_or l i 0 ≤ m
 at-none-above m n [] i e h = omega arith
+at-none-above m zero (y ∷ l) i e h = absurd (omega arith)
 at-none-above m (suc n) (y ∷ l) zero e h = leb-true y m (and_left (leb y m) (none_above m (take n l)) e)
 at-none-above m (suc n) (y ∷ l) (suc i) e h = at-none-above m n l i (and_right (leb y m) (none_above m (take n l)) e) (omega arith)
 

@@ -1,0 +1,13 @@
+-- The bytes are plain, so their words are those of the pen, and the block is pasted.
+use mathlib.Core.Path.{◌≡◌}
+use native.Mathlib.Omega.{arith}
+use lib.ListN.{length}
+use borrow.Author.Rules.{rules}
+use Rattle.cells.proofs.Putting.{put-block}
+use Rattle.cells.proofs.runs.put_block.Goals as goal
+
+pub returns : goal.returns
+returns c =
+    let pre = c.requires in
+    let long : length c.block_words-words.result ≡ 16 = search rules in
+    put-block _ pre.3 (omega arith) pre.1 pre.4 c.block_words-words.ensures c.paste_block.ensures

@@ -1,0 +1,15 @@
+-- Each arm gives the setting of its number, and the last one that of any other.
+use borrow.Author.Tests.{ne_eqb}
+use Rattle.cells.proofs.words.setting_of.Goals as goal
+
+pub returns-in-0 : goal.returns-in-0
+returns-in-0 c = search c.in-0.is
+
+pub returns-in-1 : goal.returns-in-1
+returns-in-1 c = search c.in-1.is
+
+pub returns-in-2 : goal.returns-in-2
+returns-in-2 c = search c.in-2.is
+
+pub returns-in_default : goal.returns-in_default
+returns-in_default c = search (ne_eqb, c.in_default.in_default-own.rest)

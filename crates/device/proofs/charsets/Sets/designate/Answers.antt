@@ -1,0 +1,14 @@
+-- Each arm is the definition's clause for that register.
+use Rattle.device.proofs.charsets.Sets.designate.Goals as goal
+
+pub returns-in-G0 : goal.returns-in-G0
+returns-in-G0 c = rw c.in-G0.is c.sets_of.ensures
+
+pub returns-in-G1 : goal.returns-in-G1
+returns-in-G1 c = rw c.in-G1.is c.sets_of-in-G1.ensures
+
+pub returns-in-G2 : goal.returns-in-G2
+returns-in-G2 c = rw c.in-G2.is c.sets_of-in-G2.ensures
+
+pub returns-in-G3 : goal.returns-in-G3
+returns-in-G3 c = rw c.in-G3.is c.sets_of-in-G3.ensures

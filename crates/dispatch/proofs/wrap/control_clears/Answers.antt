@@ -1,0 +1,30 @@
+-- At each control the answer is the definition's: the listed ones compute, the others are not listed.
+use Rattle.std.proofs.Common.{ne_eqb}
+use Rattle.dispatch.proofs.wrap.control_clears.Goals as goal
+
+pub returns-in-8 : goal.returns-in-8
+returns-in-8 c = simp c.in-8.is
+
+pub returns-in-9 : goal.returns-in-9
+returns-in-9 c = simp c.in-9.is
+
+pub returns-in-10 : goal.returns-in-10
+returns-in-10 c = simp c.in-10.is
+
+pub returns-in-11 : goal.returns-in-11
+returns-in-11 c = simp c.in-11.is
+
+pub returns-in-12 : goal.returns-in-12
+returns-in-12 c = simp c.in-12.is
+
+pub returns-in-13 : goal.returns-in-13
+returns-in-13 c = simp c.in-13.is
+
+pub returns-in-14 : goal.returns-in-14
+returns-in-14 c = simp c.in-14.is
+
+pub returns-in-15 : goal.returns-in-15
+returns-in-15 c = simp c.in-15.is
+
+pub returns-in_default : goal.returns-in_default
+returns-in_default c = search (ne_eqb, c.in_default.in_default-own.rest)

@@ -1,0 +1,26 @@
+-- Each way takes the rows of the other rectangle in turn, and none that was written before.
+use Prim.Native.Nat.{◌+◌, ◌-◌}
+use native.Mathlib.Omega.{arith}
+use Rattle.page.proofs.Blocks.{block-copied}
+use Rattle.page.proofs.KnownRows.{over_nothing}
+use Rattle.page.proofs.edits.copy_rectangle.Goals as goal
+
+pub returns-then-top-row : goal.returns-then-top-row
+returns-then-top-row c =
+    let a = c.args in
+    block-copied a.left a.right a.row a.column (λ j. j) (λ j l h. omega arith) c.slide_rows.ensures
+
+pub returns-then-top-row-2 : goal.returns-then-top-row-2
+returns-then-top-row-2 c =
+    let a = c.args in
+    block-copied a.left a.right a.row a.column (λ j. j + (a.row - a.top)) (λ j l h. omega arith)
+    (over_nothing c.raise_rows.ensures)
+
+pub returns : goal.returns
+returns c =
+    let a = c.args in
+    block-copied a.left a.right a.row a.column (λ j. j - (a.top - a.row)) (λ j l h. omega arith)
+    (over_nothing c.lower_rows.ensures)
+
+pub lower_rows-requires : goal.lower_rows-requires
+lower_rows-requires c = (omega arith, omega arith, omega arith, λ e. absurd (omega arith))

@@ -1,0 +1,14 @@
+-- The rows from `k` to `end` are done. The row that the next one takes is not done yet, since the loop goes from the last row to the first and takes from
+-- above. Rows that go down by none are what they were.
+use Prim.Native.Nat.{◌-◌, ◌≤◌}
+use Rattle.cells.specs.Rows.{row}
+use Rattle.page.specs.Edits.{overlaid_from, in_range}
+use Rattle.page.specs.Writes.{RedoneOver}
+use Rattle.page.proofs.rows.lower_rows.Given as goal
+
+abbrev pub invariant-loop-k : goal.invariant-loop-k
+invariant-loop-k l = (l.top ≤ l.k) × (l.k ≤ l.end) × RedoneOver l.initial.page l.page (in_range l.k l.end)
+    (λ j. overlaid_from (row l.initial.page j) l.left l.right (row l.initial.page (j - l.count)) l.column) l.known l.bits
+
+abbrev pub decreases-loop-k : goal.decreases-loop-k
+decreases-loop-k l = l.k

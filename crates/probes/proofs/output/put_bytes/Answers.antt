@@ -1,0 +1,16 @@
+use Rattle.std.proofs.Common.{◌-◌, arith, drop_of_length-le}
+use Rattle.probes.proofs.OutputLaws.{all-remains, none-remains, bytes-less}
+use Rattle.probes.proofs.output.put_bytes.Goals as goal
+
+pub loop-i-preserved : goal.loop-i-preserved
+loop-i-preserved c =
+    (omega arith, bytes-less _ _ c.loop-i-test.true c.loop-i.invariant.1 c.put-next.ensures)
+
+pub loop-i-init : goal.loop-i-init
+loop-i-init c = (omega arith, all-remains _ _ _)
+
+pub shape_of-out : goal.shape_of-out
+shape_of-out c = c.loop-i.invariant.1.long
+
+pub returns : goal.returns
+returns c = none-remains (rw (drop_of_length-le _ c.loop-i-test.false) at c.loop-i.invariant.1)

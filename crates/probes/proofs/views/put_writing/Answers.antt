@@ -1,0 +1,8 @@
+-- The parts are put one after the other.
+use Rattle.probes.proofs.OutputLaws.{put-more}
+use Rattle.probes.proofs.views.put_writing.Goals as goal
+
+pub returns : goal.returns
+returns c =
+    let number = rw c.shift_number.ensures at c.put.ensures in
+    put-more (put-more (put-more c.put_rendition-protection.ensures c.put_flag-sets.ensures) c.put_sets-shifted.ensures) number

@@ -1,7 +1,0 @@
--- Each field is its callee's, or is copied.
-use Rattle.std.proofs.Common.{rules}
-use Rattle.record.proofs.from_state.rendition_record.Statement.{statement}
-use Rattle.record.proofs.from_state.rendition_record.Tie as tie
-
-pub rendition-record-spec : {M : Type 1} → statement M
-rendition-record-spec = tie.close (tie.spec (λ c κs. search rules) (λ c κs. search rules) (λ c κs. search rules) (λ c κs. search rules) (λ c. cc))

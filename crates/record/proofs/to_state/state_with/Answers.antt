@@ -1,0 +1,7 @@
+-- Each part is its callee's, or is copied.
+use Rattle.record.specs.Record.{state_with}
+use Rattle.record.proofs.to_state.state_with.Goals as goal
+
+pub returns : goal.returns
+unfolding state_with
+returns c = rw (c.core_of-core.ensures, c.line_of-line.ensures, c.is_on.ensures)
