@@ -1,4 +1,2 @@
 pub mod TextLaws
 pub mod CallLaws
-pub mod RecordWalk
-pub mod WalkKit

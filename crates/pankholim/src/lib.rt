@@ -28,8 +28,7 @@ const MINOR: u32 = 5;
 const PATCH: u32 = 0;
 
 // The library's version, as one number.
-#[unsafe(no_mangle)]
-pub extern "C" fn pankholim_version() -> u32
+pub fn pankholim_version() -> u32
     ensures { result ≡ version }
 {
     MAJOR * 65536 + MINOR * 256 + PATCH
@@ -37,8 +36,7 @@ pub extern "C" fn pankholim_version() -> u32
 
 // Starts a terminal of 24, 36 or 48 rows: every cell of page and line blank, the record fresh, whatever it was. Refused, it
 // leaves all three.
-#[unsafe(no_mangle)]
-pub extern "C" fn pankholim_start(
+pub fn pankholim_start(
     terminal: &mut Terminal,
     rows: usize,
     page: &mut [u16],
@@ -53,8 +51,7 @@ pub extern "C" fn pankholim_start(
 }
 
 // Feeds bytes from the modem, until the input ends or a reply does not fit.
-#[unsafe(no_mangle)]
-pub extern "C" fn pankholim_feed(
+pub fn pankholim_feed(
     terminal: &mut Terminal,
     page: &mut [u16],
     line: &mut [u16],
@@ -73,8 +70,7 @@ pub extern "C" fn pankholim_feed(
 }
 
 // Asks for the changed rows, and whether the line changed; empties the set and clears the line's flag.
-#[unsafe(no_mangle)]
-pub extern "C" fn pankholim_ask(
+pub fn pankholim_ask(
     terminal: &mut Terminal,
     changed: &mut u64,
     count: &mut u32,
@@ -89,8 +85,7 @@ pub extern "C" fn pankholim_ask(
 }
 
 // Reads a cell of the page by its row and column, counted from 1.
-#[unsafe(no_mangle)]
-pub extern "C" fn pankholim_read(
+pub fn pankholim_read(
     terminal: &Terminal,
     page: &[u16],
     row: usize,
@@ -104,8 +99,7 @@ pub extern "C" fn pankholim_read(
 
 // Reads a row of the active display, counted from 1: `part` is its 80 cells, where they lie in page or line, or none where
 // the call is refused. The record goes by value: so no walk by hand is needed.
-#[unsafe(no_mangle)]
-pub extern "C" fn pankholim_row<'a>(
+pub fn pankholim_row<'a>(
     terminal: Terminal,
     page: &'a [u16],
     line: &'a [u16],
@@ -121,8 +115,7 @@ pub extern "C" fn pankholim_row<'a>(
 
 // Reads the page's cursor: its row and column, counted from 1, whatever origin mode says, whether a
 // wrap is due, and whether it is shown.
-#[unsafe(no_mangle)]
-pub extern "C" fn pankholim_cursor(
+pub fn pankholim_cursor(
     terminal: &Terminal,
     row: &mut usize,
     column: &mut usize,
@@ -136,8 +129,7 @@ pub extern "C" fn pankholim_cursor(
 }
 
 // How many bytes the text of a page takes.
-#[unsafe(no_mangle)]
-pub extern "C" fn pankholim_text_len(page: &[u16]) -> usize
+pub fn pankholim_text_len(page: &[u16]) -> usize
     ensures { result ≡ length (page_text page.now) }
 {
     text_len(page)
@@ -145,8 +137,7 @@ pub extern "C" fn pankholim_text_len(page: &[u16]) -> usize
 
 // Writes the text of a page at the front of a buffer, whole or not at all. `len` is the bytes that it
 // takes, also where the buffer is too small.
-#[unsafe(no_mangle)]
-pub extern "C" fn pankholim_write_text(page: &[u16], out: &mut [u8], len: &mut usize) -> u8
+pub fn pankholim_write_text(page: &[u16], out: &mut [u8], len: &mut usize) -> u8
     ensures { WriteLeaves page.now out.old result out.new len.new }
 {
     match write_text(page, out) {

@@ -1,0 +1,95 @@
+-- `pankholim::by_value::feed` meets its contract: a plain record may take the input in place; else it is refused by the tests of the record, page and
+-- line, or fed as the call by value does.
+use mathlib.Core.Path.{◌≡◌, sym, ◌∙◌}
+use mathlib.Core.Bool.{true}
+use mathlib.Core.Logic.{⊎_elim}
+use borrow.Author.Tests.{not-false}
+use Rattle.ground.proofs.TestLaws.{and_left, and_right}
+use Rattle.steps.specs.Steps.{Buffers, buffers}
+use Rattle.steps.specs.Whole.{whole_state, right_sizes}
+use Rattle.record.specs.Plain.{plain}
+use Rattle.record.specs.Record.{state_of}
+use Rattle.record.proofs.PlainLaws.{plain-whole}
+use Rattle.record.proofs.EmptiedLaws.{named-with, whole-named}
+use Rattle.terminal.proofs.CallLaws.{sizes-fit}
+use Rattle.inplace.specs.InPlace.{takes_in_place}
+use Rattle.inplace.proofs.PlaceLaws.{taking}
+use Rattle.pankholim.proofs.CallLaws.{feed-broken, feed-sized, feed-takes, feed-put, feed-leaves}
+use Rattle.pankholim.proofs.by_value.feed.Goals as goal
+use Rattle.pankholim.proofs.by_value.feed.Goals.{Joined-not-plain, Start, Then-plain-right, Then-takes}
+
+-- what is lent
+abbrev lent_to : Start → Buffers
+lent_to start = buffers start.args.page.now start.args.line.now
+
+-- ---- in place
+
+plainly : (c : Then-plain-right) → plain c.args.terminal ≡ true
+plainly c = sym c.is_plain-plain.ensures ∙ and_left c.is_plain-plain.result _ c.if-plain-right.true
+
+fits : (c : Then-plain-right) → right_sizes c.args.terminal.rows (lent_to c.before) ≡ true
+fits c = and_right c.is_plain-plain.result _ c.if-plain-right.true
+
+takes : (c : Then-takes) → let a = c.args in takes_in_place a.terminal a.input.now ≡ true
+takes c = sym c.takes.ensures ∙ c.if-takes.true
+
+pub put_in_place-changed-requires : goal.put_in_place-changed-requires
+put_in_place-changed-requires c =
+    (plainly (goal.at.put_in_place-changed-requires c).Then-plain-right, takes (goal.at.put_in_place-changed-requires c).Then-takes, (sizes-fit c.args.terminal.rows (lent_to (goal.at.put_in_place-changed-requires c).Start) (fits (goal.at.put_in_place-changed-requires c).Then-plain-right)).0)
+
+pub moved-requires : goal.moved-requires
+moved-requires c =
+    let a = c.args in
+    (plainly (goal.at.moved-requires c).Then-plain-right, (taking a.terminal a.input.now (takes (goal.at.moved-requires c).Then-takes)).room)
+
+pub returns-then-takes : goal.returns-then-takes
+returns-then-takes c =
+    let a = c.args in
+    feed-put a.terminal (lent_to (goal.at.returns-then-takes c).Start) a.input.now a.reply.now _ c.moved.result _ (sizes-fit a.terminal.rows (lent_to (goal.at.returns-then-takes c).Start) (fits (goal.at.returns-then-takes c).Then-plain-right)).1
+    (rw c.moved.ensures c.put_in_place-changed.ensures) c.number.ensures
+
+pub steered-requires : goal.steered-requires
+steered-requires c =
+    (plainly (goal.at.steered-requires c).Then-plain-right, sym c.steers.ensures ∙ c.if-steers.true)
+
+pub returns-then-steers : goal.returns-then-steers
+returns-then-steers c =
+    let a = c.args in
+    let sizes = sizes-fit a.terminal.rows (lent_to (goal.at.returns-then-steers c).Start) (fits (goal.at.returns-then-steers c).Then-plain-right) in
+    feed-put a.terminal (lent_to (goal.at.returns-then-steers c).Start) a.input.now a.reply.now _ c.steered.result _ sizes.1 (c.steered.ensures _ sizes.0) c.number-then-steers.ensures
+
+-- ---- by its state
+
+pub returns-then-not-is_whole_record : goal.returns-then-not-is_whole_record
+returns-then-not-is_whole_record c =
+    let no = c.refused.ensures in
+    let a = c.args in
+    rw (no.1, no.2, no.3) (feed-broken a.terminal (lent_to (goal.at.returns-then-not-is_whole_record c).Start) a.input.now a.reply.now _ (sym c.is_whole_record.ensures ∙ c.if-not-is_whole_record.true) no.0)
+
+whole : (c : Joined-not-plain) → whole_state (state_of c.args.terminal) ≡ true
+whole c =
+    ⊎_elim (λ w. sym w.1.ensures ∙ not-false _ w.2.left)
+    (λ n. plain-whole c.args.terminal (sym c.is_plain-plain.ensures ∙ not-false _ n.left)) c.if-not-plain.branch
+
+-- the state, once the record is known to be whole
+is_state : (c : Joined-not-plain) → c.state_with-state.result ≡ state_of c.args.terminal
+is_state c =
+    let t = c.args.terminal in
+    c.state_with-state.ensures ∙ named-with t (whole-named t (whole c))
+
+pub returns-then-not-right : goal.returns-then-not-right
+returns-then-not-right c =
+    let no = c.refused-then-not-right.ensures in
+    let a = c.args in
+    rw (no.1, no.2, no.3) (feed-sized a.terminal (lent_to (at)) a.input.now a.reply.now _ (whole at) (c.if-not-right.true) no.0)
+
+pub feed_whole-done-requires : goal.feed_whole-done-requires
+feed_whole-done-requires c =
+    let a = c.args in
+    feed-takes a.terminal (lent_to (at)) a.input.now a.reply.now _ (is_state at) (whole at) (c.if-not-right.false)
+
+pub returns : goal.returns
+returns c =
+    let a = c.args in
+    feed-leaves a.terminal _ (lent_to (at)) a.input.now a.reply.now c.feed_whole-done.result _ _ _ _ (is_state at) c.feed_whole-done.ensures
+    c.number-2.ensures c.record_left.ensures
