@@ -16,18 +16,14 @@ use Rattle.inplace.specs.InPlace.{takes_in_place}
 use Rattle.inplace.proofs.PlaceLaws.{taking}
 use Rattle.pankholim.proofs.CallLaws.{feed-broken, feed-sized, feed-takes, feed-put, feed-leaves}
 use Rattle.pankholim.proofs.by_value.feed.Goals as goal
-use Rattle.pankholim.proofs.by_value.feed.Goals.{Joined-not-plain, Start, Then-plain-right, Then-takes}
-
--- what is lent
-abbrev lent_to : Start → Buffers
-lent_to start = buffers start.args.page.now start.args.line.now
+use Rattle.pankholim.proofs.by_value.feed.Goals.{Joined-not-plain, Then-plain-right, Then-takes, then-not-plain+else-not-is_whole_record, else-not-plain}
 
 -- ---- in place
 
 plainly : (c : Then-plain-right) → plain c.args.terminal ≡ true
 plainly c = sym c.is_plain-plain.ensures ∙ and_left c.is_plain-plain.result _ c.if-plain-right.true
 
-fits : (c : Then-plain-right) → right_sizes c.args.terminal.rows (lent_to c.before) ≡ true
+fits : (c : Then-plain-right) → right_sizes c.args.terminal.rows (buffers c.args.page.now c.args.line.now) ≡ true
 fits c = and_right c.is_plain-plain.result _ c.if-plain-right.true
 
 takes : (c : Then-takes) → let a = c.args in takes_in_place a.terminal a.input.now ≡ true
@@ -35,7 +31,7 @@ takes c = sym c.takes.ensures ∙ c.if-takes.true
 
 pub put_in_place-changed-requires : goal.put_in_place-changed-requires
 put_in_place-changed-requires c =
-    (plainly (goal.at.put_in_place-changed-requires c).Then-plain-right, takes (goal.at.put_in_place-changed-requires c).Then-takes, (sizes-fit c.args.terminal.rows (lent_to (goal.at.put_in_place-changed-requires c).Start) (fits (goal.at.put_in_place-changed-requires c).Then-plain-right)).0)
+    (plainly (goal.at.put_in_place-changed-requires c).Then-plain-right, takes (goal.at.put_in_place-changed-requires c).Then-takes, (sizes-fit c.args.terminal.rows (buffers c.args.page.now c.args.line.now) (fits (goal.at.put_in_place-changed-requires c).Then-plain-right)).0)
 
 pub moved-requires : goal.moved-requires
 moved-requires c =
@@ -45,7 +41,7 @@ moved-requires c =
 pub returns-then-takes : goal.returns-then-takes
 returns-then-takes c =
     let a = c.args in
-    feed-put a.terminal (lent_to (goal.at.returns-then-takes c).Start) a.input.now a.reply.now _ c.moved.result _ (sizes-fit a.terminal.rows (lent_to (goal.at.returns-then-takes c).Start) (fits (goal.at.returns-then-takes c).Then-plain-right)).1
+    feed-put a.terminal (buffers c.args.page.now c.args.line.now) a.input.now a.reply.now _ c.moved.result _ (sizes-fit a.terminal.rows (buffers c.args.page.now c.args.line.now) (fits (goal.at.returns-then-takes c).Then-plain-right)).1
     (rw c.moved.ensures c.put_in_place-changed.ensures) c.number.ensures
 
 pub steered-requires : goal.steered-requires
@@ -55,8 +51,8 @@ steered-requires c =
 pub returns-then-steers : goal.returns-then-steers
 returns-then-steers c =
     let a = c.args in
-    let sizes = sizes-fit a.terminal.rows (lent_to (goal.at.returns-then-steers c).Start) (fits (goal.at.returns-then-steers c).Then-plain-right) in
-    feed-put a.terminal (lent_to (goal.at.returns-then-steers c).Start) a.input.now a.reply.now _ c.steered.result _ sizes.1 (c.steered.ensures _ sizes.0) c.number-then-steers.ensures
+    let sizes = sizes-fit a.terminal.rows (buffers c.args.page.now c.args.line.now) (fits (goal.at.returns-then-steers c).Then-plain-right) in
+    feed-put a.terminal (buffers c.args.page.now c.args.line.now) a.input.now a.reply.now _ c.steered.result _ sizes.1 (c.steered.ensures _ sizes.0) c.number-then-steers.ensures
 
 -- ---- by its state
 
@@ -64,12 +60,14 @@ pub returns-then-not-is_whole_record : goal.returns-then-not-is_whole_record
 returns-then-not-is_whole_record c =
     let no = c.refused.ensures in
     let a = c.args in
-    rw (no.1, no.2, no.3) (feed-broken a.terminal (lent_to (goal.at.returns-then-not-is_whole_record c).Start) a.input.now a.reply.now _ (sym c.is_whole_record.ensures ∙ c.if-not-is_whole_record.true) no.0)
+    rw (no.1, no.2, no.3) (feed-broken a.terminal (buffers c.args.page.now c.args.line.now) a.input.now a.reply.now _ (sym c.is_whole_record.ensures ∙ c.if-not-is_whole_record.true) no.0)
 
 whole : (c : Joined-not-plain) → whole_state (state_of c.args.terminal) ≡ true
 whole c =
-    ⊎_elim (λ w. sym w.1.ensures ∙ not-false _ w.2.left)
-    (λ n. plain-whole c.args.terminal (sym c.is_plain-plain.ensures ∙ not-false _ n.left)) c.if-not-plain.branch
+    elim c.if-not-plain.branch [
+      then-not-plain+else-not-is_whole_record w ↦ sym w.is_whole_record.ensures ∙ w.if-not-is_whole_record.false
+    | else-not-plain n ↦ plain-whole c.args.terminal (sym c.is_plain-plain.ensures ∙ n.if-not-plain.false)
+    ]
 
 -- the state, once the record is known to be whole
 is_state : (c : Joined-not-plain) → c.state_with-state.result ≡ state_of c.args.terminal
@@ -81,15 +79,15 @@ pub returns-then-not-right : goal.returns-then-not-right
 returns-then-not-right c =
     let no = c.refused-then-not-right.ensures in
     let a = c.args in
-    rw (no.1, no.2, no.3) (feed-sized a.terminal (lent_to (at)) a.input.now a.reply.now _ (whole at) (c.if-not-right.true) no.0)
+    rw (no.1, no.2, no.3) (feed-sized a.terminal (buffers c.args.page.now c.args.line.now) a.input.now a.reply.now _ (whole (goal.at.returns-then-not-right c).Joined-not-plain) (c.if-not-right.true) no.0)
 
 pub feed_whole-done-requires : goal.feed_whole-done-requires
 feed_whole-done-requires c =
     let a = c.args in
-    feed-takes a.terminal (lent_to (at)) a.input.now a.reply.now _ (is_state at) (whole at) (c.if-not-right.false)
+    feed-takes a.terminal (buffers c.args.page.now c.args.line.now) a.input.now a.reply.now _ (is_state (goal.at.feed_whole-done-requires c).Joined-not-plain) (whole (goal.at.feed_whole-done-requires c).Joined-not-plain) (c.if-not-right.false)
 
 pub returns : goal.returns
 returns c =
     let a = c.args in
-    feed-leaves a.terminal _ (lent_to (at)) a.input.now a.reply.now c.feed_whole-done.result _ _ _ _ (is_state at) c.feed_whole-done.ensures
+    feed-leaves a.terminal _ (buffers c.args.page.now c.args.line.now) a.input.now a.reply.now c.feed_whole-done.result _ _ _ _ (is_state (goal.at.returns c).Joined-not-plain) c.feed_whole-done.ensures
     c.number-2.ensures c.record_left.ensures
