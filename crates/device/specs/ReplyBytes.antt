@@ -9,7 +9,7 @@ abbrev pub csi : Bool → List ℕ
 csi true = 0x9B ∷ []
 csi false = 0x1B ∷ 0x5B ∷ []
 
--- after CSI: ?64;6c  >41;1;0c  0n  row;column_r  ?row;column;1R  ?13n
+-- after CSI: ?64;6c  >41;1;0c  0n  row;columnR  ?row;column;1R  ?13n
 abbrev pub body_of : Reply → List ℕ
 body_of Silent = []
 body_of PrimaryAttributes = 0x3F ∷ 0x36 ∷ 0x34 ∷ 0x3B ∷ 0x36 ∷ 0x63 ∷ []

@@ -242,11 +242,11 @@ stops_before = query "A\u{1b}P\u{9a}B" 6 3 3 "" ∷ send "CD\u{9c}E" ∷ text 1 
 
 -- A scroll changes just the rows that become different.
 abbrev pub scrolled : List Line
-scrolled = send "A\r\n_a\r\n_b" ∷ rows (1 ∷ 2 ∷ 3 ∷ []) ∷ send "\u{1b}[24H\n" ∷ rows (2 ∷ 3 ∷ []) ∷ text 1 1 "A " ∷ text 2 1 "B " ∷ text 3 1 "  " ∷ []
+scrolled = send "A\r\nA\r\nB" ∷ rows (1 ∷ 2 ∷ 3 ∷ []) ∷ send "\u{1b}[24H\n" ∷ rows (2 ∷ 3 ∷ []) ∷ text 1 1 "A " ∷ text 2 1 "B " ∷ text 3 1 "  " ∷ []
 
 -- Selective erase skips protected cells and keeps flags; K does not.
 abbrev pub selective : List Line
-selective = send "\u{1b}[1\"q_a\u{1b}[2\"q\u{1b}[1mB\u{1b}[?1K" ∷ words 1 1 (0x2041 ∷ 0x0220 ∷ 0x0020 ∷ []) ∷ rows (1 ∷ []) ∷ send "\u{1b}[?2J" ∷ rows []
+selective = send "\u{1b}[1\"qA\u{1b}[2\"q\u{1b}[1mB\u{1b}[?1K" ∷ words 1 1 (0x2041 ∷ 0x0220 ∷ 0x0020 ∷ []) ∷ rows (1 ∷ []) ∷ send "\u{1b}[?2J" ∷ rows []
     ∷ send "\u{1b}[2K" ∷ text 1 1 "   " ∷ rows (1 ∷ []) ∷ []
 
 -- ESC 8 holds the row to the margins if origin is then on, and restores wrap due only with autowrap.
@@ -270,7 +270,7 @@ saved_shift = send "\u{8e}\u{1b}7a\u{1b}8bc" ∷ words 1 1 (0x0162 ∷ 0x0063 �
 abbrev pub rectangle_painted : List Line
 rectangle_painted = send "\u{1b}[?7hABC\u{1b}[3;80Hw\u{1b}[35;1;3;2;4$x" ∷ text 1 1 "AB## " ∷ text 2 1 "  ## " ∷ cursor 3 80 true ∷ rows (1 ∷ 2 ∷ 3 ∷ [])
     ∷ send "\u{1b}[1;1;1;3;1;1;2;1$v" ∷ text 1 1 "AAB# " ∷ send "\u{1b}[1;2;2;4;;24;79$v" ∷ text 24 78 " AB" ∷ rows (1 ∷ 24 ∷ [])
-    ∷ send "\u{1b}[1;2;1;2$z\u{1b}[;;;;2$v\u{1b}[127;$x_x" ∷ text 1 1 "A B# " ∷ text 4 1 "X " ∷ rows (1 ∷ 4 ∷ []) ∷ []
+    ∷ send "\u{1b}[1;2;1;2$z\u{1b}[;;;;2$v\u{1b}[127;$xX" ∷ text 1 1 "A B# " ∷ text 4 1 "X " ∷ rows (1 ∷ 4 ∷ []) ∷ []
 
 -- An edge of 0 is the page's own with origin on too, others count from T and are held to the page; then a top below the bottom is ignored.
 abbrev pub rectangle_edges : List Line
@@ -279,14 +279,14 @@ rectangle_edges = send "\u{1b}[5;10r\u{1b}[?6h\u{1b}[42;;80;1$x" ∷ text 1 80 "
 
 -- Attributes are taken in order, in a stream or in a rectangle; unlisted ones alone are ignored.
 abbrev pub rectangle_styled : List Line
-rectangle_styled = send "AB\r\n_cd\u{1b}[1;2;2;2;1;4;22$r" ∷ words 1 1 (0x0041 ∷ 0x0442 ∷ 0x0420 ∷ []) ∷ words 2 1 (0x0443 ∷ 0x0444 ∷ 0x0020 ∷ [])
+rectangle_styled = send "AB\r\nCD\u{1b}[1;2;2;2;1;4;22$r" ∷ words 1 1 (0x0041 ∷ 0x0442 ∷ 0x0420 ∷ []) ∷ words 2 1 (0x0443 ∷ 0x0444 ∷ 0x0020 ∷ [])
     ∷ rows (1 ∷ 2 ∷ []) ∷ send "\u{1b}[2*x\u{1b}[!p\u{1b}[1;1;2;1;0;1$t" ∷ words 1 1 (0x1C41 ∷ 0x0442 ∷ []) ∷ words 2 1 (0x1843 ∷ 0x0444 ∷ [])
     ∷ rows (1 ∷ 2 ∷ []) ∷ send "\u{1b}[;;;;22;99$t" ∷ rows [] ∷ send "\u{1b}[1;1;1;1$r\u{1b}[2;1;2;1${" ∷ words 1 1 (0x0041 ∷ [])
     ∷ words 2 1 (0x1820 ∷ []) ∷ []
 
 -- A mark not in first place, three intermediates, a digit after an intermediate: ignored through the final.
 abbrev pub spoilt : List Line
-spoilt = send "\u{1b}[1?JA\u{1b}[!!!p_b\u{1b}[!0pC\u{1b}(((0D" ∷ text 1 1 "ABCD " ∷ []
+spoilt = send "\u{1b}[1?JA\u{1b}[!!!pB\u{1b}[!0pC\u{1b}(((0D" ∷ text 1 1 "ABCD " ∷ []
 
 -- The sixteenth parameter is kept, the seventeenth dropped; a value stays 9,999.
 abbrev pub many_parameters : List Line
@@ -296,7 +296,7 @@ many_parameters = send "\u{1b}[0;;;;;;;;;;;;;;;1mA\u{1b}[0;;;;;;;;;;;;;;;;1mB\u{
 -- marks its parameter, if that is kept.
 abbrev pub subparameters : List Line
 subparameters =
-    send "\u{1b}[4:3;7mA\u{1b}[m\u{1b}[1;5:1HB\u{1b}[:1mC\u{1b}[7;4:m_d\u{1b}[0:1mE\u{1b}[?0:m_f\u{1b}[!:p_g"
+    send "\u{1b}[4:3;7mA\u{1b}[m\u{1b}[1;5:1HB\u{1b}[:1mC\u{1b}[7;4:mD\u{1b}[0:1mE\u{1b}[?0:mF\u{1b}[!:pG"
     ∷ words 1 1 (0x1041 ∷ 0x0042 ∷ 0x0043 ∷ 0x1044 ∷ 0x1045 ∷ 0x1046 ∷ 0x1047 ∷ [])
     ∷ send "\u{1b}[3;4;;;;;;;;;;;;;;;5:6H" ∷ cursor 3 4 false ∷ send "\u{1b}[5;6;;;;;;;;;;;;;;7:H" ∷ cursor 3 4 false
     ∷ query "\u{1b}[6:1n" 64 0 6 "" ∷ []
@@ -308,16 +308,16 @@ reset_rules = send "\u{1b}[5;5Hx\u{8} \u{1b}[6;6Hy" ∷ send "\u{1b}[3g\u{1b} G\
 
 -- The replies of one call share its room; the byte that does not fit is read by the next call.
 abbrev pub room_left : List Line
-room_left = query "\u{1b}[5n\u{1b}[6nA" 9 3 7 "\u{1b}[0n" ∷ query "n_b" 6 0 2 "\u{1b}[1;1R" ∷ text 1 1 "B " ∷ []
+room_left = query "\u{1b}[5n\u{1b}[6nA" 9 3 7 "\u{1b}[0n" ∷ query "nB" 6 0 2 "\u{1b}[1;1R" ∷ text 1 1 "B " ∷ []
 
 -- ---- the status line: CSI 1 $ ~ makes one, CSI 1 $ } makes it active
 
 -- Bytes go to the line, and the page stays as it is. A row that is read is the active display's.
 abbrev pub line_written : List Line
 line_written = send "Signal" ∷ row 1 "Signal " ∷ row 24 " " ∷ no_row 25 4 ∷ rows (1 ∷ [])
-    ∷ send "\u{1b}[1$~\u{1b}[1$}-61 d_bm" ∷ status 1 "-61 d_bm " ∷ status_cursor 8 false ∷ text 1 1 "Signal " ∷ cursor 1 7 false
-    ∷ row 1 "-61 d_bm " ∷ no_row 0 4 ∷ no_row 2 4 ∷ rows_and_line [] ∷ rows []
-    ∷ send "\r-61 d_bm" ∷ rows [] ∷ send "\u{1b}[0$} 7" ∷ text 1 1 "Signal 7 " ∷ row 1 "Signal 7 " ∷ rows (1 ∷ []) ∷ []
+    ∷ send "\u{1b}[1$~\u{1b}[1$}-61 dBm" ∷ status 1 "-61 dBm " ∷ status_cursor 8 false ∷ text 1 1 "Signal " ∷ cursor 1 7 false
+    ∷ row 1 "-61 dBm " ∷ no_row 0 4 ∷ no_row 2 4 ∷ rows_and_line [] ∷ rows []
+    ∷ send "\r-61 dBm" ∷ rows [] ∷ send "\u{1b}[0$} 7" ∷ text 1 1 "Signal 7 " ∷ row 1 "Signal 7 " ∷ rows (1 ∷ []) ∷ []
 
 -- Wrap due leads to column 1 of the line.
 abbrev pub line_wraps : List Line
@@ -425,7 +425,7 @@ shared_tabs = send "\u{1b}[1$~\u{1b}[1$}\u{1b}[;5H\u{1b}H\u{1b}[0$}\t" ∷ curso
 -- Modes that are set on the line: insert, newline and 8-bit replies; and on the page.
 abbrev pub shared_modes : List Line
 shared_modes = send "AB\r\u{1b}[1$~\u{1b}[1$}\u{1b}[4;20h\u{1b} G\u{1b}[0$}C" ∷ text 1 1 "CAB " ∷ send "\n" ∷ cursor 2 1 false
-    ∷ query "\u{1b}[5n" 64 0 4 "\u{9b}0n" ∷ send "\u{1b}[4;20l\u{1b} F\u{1b}[1$}DE\r_f\n" ∷ status 1 "FE " ∷ status_cursor 2 false
+    ∷ query "\u{1b}[5n" 64 0 4 "\u{9b}0n" ∷ send "\u{1b}[4;20l\u{1b} F\u{1b}[1$}DE\rF\n" ∷ status 1 "FE " ∷ status_cursor 2 false
     ∷ query "\u{1b}[5n" 64 0 4 "\u{1b}[0n" ∷ []
 
 -- ESC 8 on the line brings back how its ESC 7 found characters written; the page's is still the fresh one.
