@@ -1,9 +1,9 @@
 /*
  * Pankholim: a VT420 console reader, proved correct in Rattle, for C and C++.
  *
- * Link target/staticlib/libpankholim.a, which `rt staticlib pankholim` writes, for x86-64 Linux alone. The
+ * Link target/staticlib/libpankholim.a, which `bash tools/build library` writes, for x86-64 Linux alone. The
  * library allocates nothing, keeps nothing between calls, has no global data and calls no other library, so calls
- * on different terminals may run at the same time. A call takes less than 2,304 bytes of stack (measured:
+ * on different terminals may run at the same time. A call takes less than 2,560 bytes of stack (measured:
  * tests/c/stack.c).
  *
  * A terminal is a record, a page and a status line, lent by the caller at each call that takes them:

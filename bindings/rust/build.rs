@@ -1,4 +1,4 @@
-//! Says where `libpankholim.a` is: in `PANKHOLIM_LIB_DIR`, or where `rt staticlib pankholim` writes it.
+//! Says where `libpankholim.a` is: in `PANKHOLIM_LIB_DIR`, or where `bash tools/build library` writes it.
 
 use std::env;
 use std::path::PathBuf;

@@ -14,7 +14,7 @@
 
 #include "pankholim.h"
 
-enum { STACK = 262144, PAINT = 0xA5, SAID = 2304, PIECE = 1000, ROUNDS = 300 };
+enum { STACK = 262144, PAINT = 0xA5, SAID = 2560, PIECE = 1000, ROUNDS = 300 };
 
 static uint8_t stack[STACK];
 static ucontext_t caller, callee;

@@ -23,7 +23,7 @@
 //! none, 1 and 2 a line), and by CSI Ps $ } what is active (0 the page, 1 the line): bytes act on that. CSI ! p and
 //! ESC c act on the page, whichever is active, and ESC c blanks both.
 //!
-//! The crate links `libpankholim.a`, which `rt staticlib pankholim` writes (x86-64 Linux), from the folder that the
+//! The crate links `libpankholim.a`, which `bash tools/build library` writes (x86-64 Linux), from the folder that the
 //! environment variable `PANKHOLIM_LIB_DIR` names, or else from `../../target/staticlib`.
 
 #![warn(missing_docs)]

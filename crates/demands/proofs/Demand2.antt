@@ -1,8 +1,7 @@
 -- Demand 2: feeding in several calls, each done, equals feeding at once. It is the law of a run over appended input.
-use Rattle.std.proofs.Common.{◌≡◌, ℕ, ◌+◌, List, [], ◌∷◌, ◌++◌, length, take, sym, refl, ap, ◌∙◌, ap₂, arith, take_all}
+use Rattle.std.proofs.Common.{◌≡◌, ℕ, List, [], ◌∷◌, ◌++◌, length, take, sym, refl, ap, ◌∙◌, ap₂, arith, take_all}
 use Rattle.core_state.specs.declared.Displays.{Displays}
 use Rattle.steps.specs.declared.State.{State}
-use Rattle.terminal.specs.Answers.{number}
 use Rattle.steps.specs.Steps.{Buffers, Screen, ran, ran_displays, sent, screen}
 use Rattle.feeding.specs.Bytes.{read_count}
 use Rattle.terminal.specs.Feed.{Feed, fitting, feed_first, fed}

@@ -21,7 +21,6 @@ use Rattle.wholeness.proofs.SoundDisplays.{SoundCarried, carried-out-sound, fres
 use Rattle.wholeness.proofs.Wholeness.{sized_rows, fresh-rows, fresh-whole}
 use Rattle.steps.specs.declared.State.{State}
 use Rattle.steps.specs.declared.Tracked.{Tracked}
-use Rattle.terminal.specs.Answers.{number}
 use Rattle.steps.specs.Steps.{Buffers, buffers, Screen, Marked, edited, edited_by, acted, stepped, ran, sent, readable}
 use Rattle.terminal.specs.Start.{fresh, blank_buffers, started}
 use Rattle.terminal.specs.Ask.{ask_done}

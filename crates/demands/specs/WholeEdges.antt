@@ -1,6 +1,6 @@
 -- The edges of a whole state (SCOPE 1.9 to 1.18, 1.28 to 1.30): for each clause states just inside and just outside. A state is a fresh one, of so
 -- many rows, with the fields changed that are named.
-use Rattle.std.specs.Prelude.{◌≡◌, ℕ, ◌-◌, ◌^◌, Bool, true, false, not, ◌&&◌, List, [], ◌∷◌, ◌++◌, set, slice_set}
+use Rattle.std.specs.Prelude.{◌≡◌, ℕ, ◌-◌, ◌^◌, Bool, true, false, not, ◌&&◌, List, [], ◌∷◌, ◌++◌, slice_set}
 use Rattle.cells.specs.declared.Rendition.{Rendition}
 use Rattle.cells.specs.declared.CharSet.TheVariants.{SpecialGraphics, Latin1}
 use Rattle.device.specs.declared.charsets.Register.TheVariants.{G0, G3}

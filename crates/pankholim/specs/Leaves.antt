@@ -3,7 +3,7 @@ use Rattle.std.specs.Prelude.{cond, List, ◌≡◌, ℕ, length}
 use Rattle.terminal.specs.declared.Answer.{Answer}
 use Rattle.steps.specs.declared.State.{State}
 use Rattle.steps.specs.Steps.{Buffers}
-use Rattle.terminal.specs.Answers.{number, refusal}
+use Rattle.terminal.specs.Answers.{refusal}
 use Rattle.terminal.specs.Start.{Start}
 use Rattle.terminal.specs.Feed.{Feed}
 use Rattle.terminal.specs.Ask.{Ask}

@@ -1,5 +1,5 @@
 -- The byte's step or steps: displays, cells and what is tracked after each byte of an input, and what it sends.
-use Rattle.std.specs.Prelude.{ℕ, suc, ◌+◌, ◌-◌, Bool, false, cond, not, ◌||◌, List, [], ◌∷◌, ◌++◌, length, ◌==◌, bit_or, nat_lt}
+use Rattle.std.specs.Prelude.{ℕ, suc, ◌-◌, Bool, false, cond, not, ◌||◌, List, [], ◌∷◌, ◌++◌, length, ◌==◌, bit_or, nat_lt}
 use Rattle.page.specs.declared.Edit.{Edit}
 use Rattle.cells.specs.Sets.{added, changed_in}
 use Rattle.page.specs.Edits.{applied, is_keep}

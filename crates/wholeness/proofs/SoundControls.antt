@@ -1,5 +1,5 @@
 -- The controls keep a core whole, and their edits stay on the page.
-use Rattle.std.proofs.Common.{◌≡◌, ℕ, ◌-◌, Bool, false, ◌&&◌, eqb, ltb, refl}
+use Rattle.std.proofs.Common.{◌≡◌, ℕ, Bool, false, ◌&&◌, eqb, ltb, refl}
 use Rattle.page.specs.declared.Edit.{Edit}
 use Rattle.page.specs.Edits.{Within}
 use Rattle.device.specs.declared.cursor.Cursor.{Cursor}

@@ -1,9 +1,8 @@
 -- Escape sequences keep a core whole, and their edits stay on the page.
-use Rattle.std.proofs.Common.{ℕ, ◌-◌, min, max, Bool, true, false, cond, refl, arith}
+use Rattle.std.proofs.Common.{ℕ, min, max, Bool, true, false, cond, refl, arith}
 use mathlib.Core.Bool.{false≢true}
 use Rattle.core_state.specs.declared.Core.{Core}
 use Rattle.core_state.specs.Whole.{Parts, WrapOf}
-use Rattle.device.specs.Cursor.{place}
 use Rattle.vt.specs.Escapes.{save_cursor, restore_cursor, align_screen, reset, escaped}
 use Rattle.ground.proofs.TestLaws.{and_left, and_right}
 use Rattle.wholeness.proofs.Decisions.{Good, good-kept, good-unedited, good-either}

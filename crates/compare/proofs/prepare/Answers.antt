@@ -1,6 +1,5 @@
 use native.Mathlib.Omega.{arith}
 use lib.ListN.{length-set}
-use Prim.Native.Nat.{◌-◌}
 use Rattle.compare.proofs.prepare.Goals as goal
 
 pub loop-i-smaller : goal.loop-i-smaller

@@ -1,4 +1,4 @@
-use Rattle.std.proofs.Common.{◌-◌, arith}
+use Rattle.std.proofs.Common.{arith}
 use Rattle.console.proofs.FeedLaws.{going-none, turn-less, turn-next, going-all}
 use Rattle.console.proofs.feed_all.Goals as goal
 
@@ -13,8 +13,11 @@ pub overflow_add-from : goal.overflow_add-from
 overflow_add-from c =
     let lent = c.requires in
     let kept = c.feed-fed.auto in
-    omega (arith, (turn-next c.loop-from.invariant lent.1 lent.2 c.loop-from-test.true
-    kept.page kept.line kept.reply c.feed-fed.ensures).within)
+    omega (
+      arith,
+      (turn-next c.loop-from.invariant lent.1 lent.2 c.loop-from-test.true
+          kept.page kept.line kept.reply c.feed-fed.ensures).within,
+    )
 
 pub loop-from-smaller : goal.loop-from-smaller
 loop-from-smaller c =

@@ -1,21 +1,18 @@
 use mathlib.Core.Path.{◌≡◌, refl, sym, ap, ◌∙◌}
 use mathlib.Core.Bool.{false}
-use mathlib.Core.Logic.{⊎_elim}
 use mathlib.Core.List.{List}
-use Prim.Native.Nat.{ℕ, ◌+◌, ◌-◌, ◌<◌}
+use Prim.Native.Nat.{ℕ, ◌+◌, ◌<◌}
 use native.Mathlib.Nat.{zero-max}
 use native.Mathlib.Omega.{arith}
 use lib.Dec.{ltb}
 use lib.ListN.{length, get_or}
-use borrow.Author.Tests.{not-true, not-false, ne_eqb, lt-ltb, le-ltb}
+use borrow.Author.Tests.{ne_eqb, lt-ltb, le-ltb}
 use Rattle.ground.proofs.TestLaws.{either}
 use borrow.Author.Rules.{rules}
-use Rattle.parser.specs.declared.phases.Phase.{Phase}
 use Rattle.parser.specs.declared.phases.Phase.TheVariants.{CsiParam}
-use Rattle.parser.specs.declared.parser.Parser.{Parser}
 use Rattle.parser.specs.declared.params.Params.{Params}
 use Rattle.parser.specs.Params.{with_digit, joins, with_joined, with_next}
-use Rattle.parser.specs.Parser.{with_params, mark_after, gathered}
+use Rattle.parser.specs.Parser.{mark_after, gathered}
 use Rattle.idle.specs.Idle.{gathers, begun, Separated, Skipped}
 use Rattle.idle.proofs.IdleLaws.{there, skipped-none, skipped-parameter, skipped-mark}
 use Rattle.idle.proofs.gather.Goals as goal
@@ -26,9 +23,9 @@ pub loop-phase-init : goal.loop-phase-init
 loop-phase-init c =
     let pre = c.requires in
     elim c.if-not-fresh.branch [
-      then-not-fresh w ↦ let old = w.if-not-fresh.true in
+      | then-not-fresh w ↦ let old = w.if-not-fresh.true in
           rw (w.separators-is, w.values-is, w.mark-is, w.phase-is, old) (search rules, search rules, rw old at pre.1, skipped-none _ _ _ pre.0)
-    | else-not-fresh w ↦ let new = w.if-not-fresh.false in
+      | else-not-fresh w ↦ let new = w.if-not-fresh.false in
           rw (w.separators-is, w.values-is, w.mark-is, w.phase-is, new) (omega arith, refl, refl, skipped-none _ _ _ pre.0)
     ]
 
@@ -78,8 +75,8 @@ mark-is : (c : Joined-byte-at)
     ≡ mark_after (so_far (begun a.fresh a.parser) now.phase now.mark now.separators now.values) (get_or a.input.now now.i 0)
 mark-is c =
     elim c.if-byte-at.branch [
-      then-byte-at w ↦ rw (w.if-byte-at.true, w.mark-is) w.joined_mark-mark.ensures
-    | else-byte-at w ↦ rw (w.if-byte-at.false, w.mark-is)
+      | then-byte-at w ↦ rw (w.if-byte-at.true, w.mark-is) w.joined_mark-mark.ensures
+      | else-byte-at w ↦ rw (w.if-byte-at.false, w.mark-is)
     ]
 
 pub bounds-input-i : goal.bounds-input-i

@@ -1,6 +1,5 @@
 -- Each way is the definition's, by the tests on the byte and the separators.
 use mathlib.Core.Path.{◌≡◌}
-use mathlib.Core.Logic.{⊎_elim}
 use native.Mathlib.Omega.{arith}
 use lib.Dec.{eqb}
 use borrow.Author.Tests.{ltb-true, lt-ltb, le-ltb}
@@ -19,8 +18,8 @@ met : (c : Joined-byte-at)
 unfolding with_joined
 met c =
     elim c.if-byte-at.branch [
-      then-byte-at w ↦ rw (w.if-byte-at.true, w.values-is)
-    | else-byte-at w ↦ rw (w.if-byte-at.false, w.values-is)
+      | then-byte-at w ↦ rw (w.if-byte-at.true, w.values-is)
+      | else-byte-at w ↦ rw (w.if-byte-at.false, w.values-is)
     ]
 
 pub bounds-values-at : goal.bounds-values-at

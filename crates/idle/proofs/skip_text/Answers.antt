@@ -1,5 +1,4 @@
 use mathlib.Core.Path.{sym, ◌∙◌}
-use Prim.Native.Nat.{◌-◌}
 use Rattle.idle.proofs.IdleLaws.{skipped-none, skipped-text}
 use Rattle.idle.proofs.skip_text.Goals as goal
 

@@ -1,4 +1,4 @@
-use Rattle.std.proofs.Common.{◌-◌, sym, refl, ◌∙◌}
+use Rattle.std.proofs.Common.{sym, refl, ◌∙◌}
 use Rattle.inplace.proofs.AsciiLaws.{one_more, no_more}
 use Rattle.inplace.proofs.all_ascii.Goals as goal
 

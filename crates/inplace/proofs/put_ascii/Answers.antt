@@ -1,4 +1,4 @@
-use Rattle.std.proofs.Common.{ℕ, ◌+◌, ◌-◌, sym, refl, arith, length-set}
+use Rattle.std.proofs.Common.{ℕ, ◌+◌, sym, refl, arith, length-set}
 use lib.ListN.{length-map}
 use Rattle.ground.proofs.ListLaws.{get_d_map}
 use Rattle.cells.proofs.Storing.{pasted-none, pasted-up, pasted-all}

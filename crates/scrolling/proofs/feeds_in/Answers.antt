@@ -4,7 +4,7 @@ use borrow.Author.Tests.{eq-eqb, ne_eqb}
 use Rattle.ground.proofs.Choice.{take-yes, take_no}
 use lib.ListN.{get_or}
 use mathlib.Core.Path.{◌≡◌, ap, ◌∙◌}
-use Prim.Native.Nat.{ℕ, ◌+◌, ◌-◌}
+use Prim.Native.Nat.{ℕ, ◌+◌}
 use native.Mathlib.Omega.{arith}
 use Rattle.ground.specs.Spans.{span}
 use Rattle.scrolling.specs.Lines.{feeds_of}
@@ -23,8 +23,8 @@ loop-k-preserved c =
     let a = c.args in
     let d : c.if-input-from-eq-LF.feeds ≡ cond (eqb (get_or a.input.now (a.from + c.loop-k.k) 0) 0x0A) 1 0 =
     elim c.if-input-from-eq-LF.branch [
-      then-input-from-eq-LF w ↦ take-yes 1 0 (eq-eqb _ 0x0A w.if-input-from-eq-LF.true) w.feeds-is
-    | else-input-from-eq-LF w ↦ take_no 1 0 (ne_eqb _ 0x0A w.if-input-from-eq-LF.false) w.feeds-is
+      | then-input-from-eq-LF w ↦ take-yes 1 0 (eq-eqb _ 0x0A w.if-input-from-eq-LF.true) w.feeds-is
+      | else-input-from-eq-LF w ↦ take_no 1 0 (ne_eqb _ 0x0A w.if-input-from-eq-LF.false) w.feeds-is
     ] in (
       omega arith,
       elim c.if-input-from-eq-LF.branch [ then-input-from-eq-LF w ↦ omega arith | else-input-from-eq-LF w ↦ omega arith ],

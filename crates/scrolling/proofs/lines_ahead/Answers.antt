@@ -1,5 +1,4 @@
 use mathlib.Core.Path.{sym, ◌∙◌}
-use Prim.Native.Nat.{◌-◌}
 use native.Mathlib.Omega.{arith}
 use Rattle.scrolling.proofs.TextLaws.{ahead_none, ahead_more}
 use Rattle.scrolling.proofs.lines_ahead.Goals as goal

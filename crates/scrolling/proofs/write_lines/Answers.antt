@@ -1,4 +1,3 @@
-use Prim.Native.Nat.{◌-◌}
 use native.Mathlib.Omega.{arith}
 use Rattle.scrolling.proofs.WriteLaws.{writing-none, writing-return, writing-feed, writing-run, writing-all, is-character}
 use Rattle.scrolling.proofs.write_lines.Goals as goal

@@ -12,8 +12,8 @@ returns c =
     (rw (c.set_number-2.ensures, c.right_set-gr.ensures))
     (rw (← c.left_set-gl.ensures, ← c.has_96.ensures) (elim c.if-has_96.branch [ then-has_96 w ↦ rw w.if-has_96.true w.space-is | else-has_96 w ↦ rw w.if-has_96.false w.space-is ]))
     (elim c.if-space-left.branch [
-      then-space-left w ↦ rw (eq-eqb _ _ w.if-space-left.true) w.low-is
-    | else-space-left w ↦ rw (ne_eqb _ _ w.if-space-left.false) w.low-is
+      | then-space-left w ↦ rw (eq-eqb _ _ w.if-space-left.true) w.low-is
+      | else-space-left w ↦ rw (ne_eqb _ _ w.if-space-left.false) w.low-is
     ])
 
 pub overflow_add-result : goal.overflow_add-result

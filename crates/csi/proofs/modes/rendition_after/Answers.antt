@@ -1,4 +1,4 @@
-use Rattle.std.proofs.Common.{◌≡◌, ℕ, ◌-◌, ◌<◌, eqb, List, [], ◌∷◌, length, get_or, refl, rules, lt-ltb, eqb-true}
+use Rattle.std.proofs.Common.{◌≡◌, ℕ, ◌<◌, eqb, List, [], ◌∷◌, length, get_or, refl, rules, lt-ltb, eqb-true}
 use Rattle.parser.specs.Params.{joined, param_count, param, numbers}
 use Rattle.cells.specs.declared.Rendition.{Rendition}
 use Rattle.ground.proofs.TestLaws.{either}

@@ -1,4 +1,4 @@
-use Rattle.std.proofs.Common.{◌≡◌, ◌-◌, length, refl, rules}
+use Rattle.std.proofs.Common.{◌≡◌, length, refl, rules}
 use Rattle.parser.proofs.ParamLaws.{list-more, list-end}
 use Rattle.csi.proofs.modes.set_modes.Goals as goal
 

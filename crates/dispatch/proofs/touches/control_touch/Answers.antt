@@ -22,8 +22,8 @@ returns-in_default c =
     let rest = c.in_default-1.rest in
     let far : (k : ℕ) → 0x0A ≤ k → k ≤ 0x0C → b ≡ k → ⊥ = λ k l u e.
     elim c.in_default.branch [
-      in_default-via-then-byte-lt8 w ↦ let h = w.if-byte-lt8-1.true in omega arith
-    | in_default-via-else-byte-lt8+else-byte-lt13 w ↦ let h = w.if-byte-lt13-1.false in omega arith
+      | in_default-via-then-byte-lt8 w ↦ let h = w.if-byte-lt8-1.true in omega arith
+      | in_default-via-else-byte-lt8+else-byte-lt13 w ↦ let h = w.if-byte-lt13-1.false in omega arith
     ] in
     rw c.untouched.ensures
     (other-touch c.args.core b c.requires.1 rest.0.0.0.0.0.1 rest.0.0.0.0.1

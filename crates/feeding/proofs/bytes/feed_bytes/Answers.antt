@@ -1,4 +1,4 @@
-use Rattle.std.proofs.Common.{◌≡◌, ◌-◌, ◌<◌, ◌≤◌, ◌&&◌, length, sym, refl, ◌∙◌, arith}
+use Rattle.std.proofs.Common.{◌≡◌, ◌<◌, ◌≤◌, ◌&&◌, length, sym, refl, ◌∙◌, arith}
 use Rattle.steps.proofs.ByteLaws.{ready-paged, wrap-lasts}
 use Rattle.feeding.proofs.TurnLaws.{view-paged, span-some, end-within, turn-within, line-turned, page-turned}
 use Rattle.feeding.proofs.FeedLoop.{fed-none, fed-turn, fed-full, fed-done}

@@ -10,7 +10,7 @@ use Rattle.core_state.specs.declared.Core.{Core}
 use Rattle.core_state.specs.declared.StatusLine.{StatusLine}
 use Rattle.core_state.specs.declared.Displays.{Displays}
 use Rattle.dispatch.specs.Displays.{sends_of}
-use Rattle.dispatch.specs.Events.{interrupts, heeded}
+use Rattle.dispatch.specs.Events.{heeded}
 use Rattle.feeding.proofs.FeedLoop.{active-sends, uninterrupted-sends}
 use Rattle.feeding.proofs.bytes.heed.Goals as goal
 use Rattle.feeding.proofs.bytes.heed.Goals.{After-active_reply-kind, After-interruption-action}

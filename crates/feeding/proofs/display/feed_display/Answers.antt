@@ -1,4 +1,4 @@
-use Rattle.std.proofs.Common.{◌-◌, not, eqb, refl, arith}
+use Rattle.std.proofs.Common.{not, eqb, refl, arith}
 use borrow.Author.Tests.{eqb-false, not-true}
 use Rattle.ground.proofs.TestLaws.{and_right}
 use Rattle.spans.specs.Parts.{with_parts}

@@ -2,10 +2,8 @@
 -- line, or fed as the call by value does.
 use mathlib.Core.Path.{◌≡◌, sym, ◌∙◌}
 use mathlib.Core.Bool.{true}
-use mathlib.Core.Logic.{⊎_elim}
-use borrow.Author.Tests.{not-false}
 use Rattle.ground.proofs.TestLaws.{and_left, and_right}
-use Rattle.steps.specs.Steps.{Buffers, buffers}
+use Rattle.steps.specs.Steps.{buffers}
 use Rattle.steps.specs.Whole.{whole_state, right_sizes}
 use Rattle.record.specs.Plain.{plain}
 use Rattle.record.specs.Record.{state_of}
@@ -65,8 +63,8 @@ returns-then-not-is_whole_record c =
 whole : (c : Joined-not-plain) → whole_state (state_of c.args.terminal) ≡ true
 whole c =
     elim c.if-not-plain.branch [
-      then-not-plain+else-not-is_whole_record w ↦ sym w.is_whole_record.ensures ∙ w.if-not-is_whole_record.false
-    | else-not-plain n ↦ plain-whole c.args.terminal (sym c.is_plain-plain.ensures ∙ n.if-not-plain.false)
+      | then-not-plain+else-not-is_whole_record w ↦ sym w.is_whole_record.ensures ∙ w.if-not-is_whole_record.false
+      | else-not-plain n ↦ plain-whole c.args.terminal (sym c.is_plain-plain.ensures ∙ n.if-not-plain.false)
     ]
 
 -- the state, once the record is known to be whole

@@ -1,4 +1,4 @@
-use Rattle.std.proofs.Common.{◌-◌, arith, drop_of_length-le}
+use Rattle.std.proofs.Common.{arith, drop_of_length-le}
 use Rattle.probes.proofs.OutputLaws.{all-remains, none-remains, bytes-less}
 use Rattle.probes.proofs.output.put_bytes.Goals as goal
 

@@ -1,4 +1,4 @@
-use Rattle.std.proofs.Common.{◌-◌, arith}
+use Rattle.std.proofs.Common.{arith}
 use Rattle.probes.proofs.OutputLaws.{number-whole, number-less, number-done}
 use Rattle.probes.proofs.output.put_number.Goals as goal
 

@@ -1,4 +1,4 @@
-use Rattle.std.proofs.Common.{◌-◌, refl, arith, length-set, rules}
+use Rattle.std.proofs.Common.{refl, arith, length-set, rules}
 use Rattle.probes.proofs.PokeLaws.{values-less, values-all}
 use Rattle.probes.proofs.pokes.values_of.Goals as goal
 

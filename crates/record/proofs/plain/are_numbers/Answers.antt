@@ -1,4 +1,4 @@
-use Rattle.std.proofs.Common.{◌≡◌, ◌-◌, ◌<◌, ◌≤◌, length, sym, refl, ◌∙◌, arith, rules}
+use Rattle.std.proofs.Common.{◌≡◌, ◌<◌, ◌≤◌, length, sym, refl, ◌∙◌, arith, rules}
 use Rattle.record.proofs.ByteLaws.{one_more, no_more}
 use Rattle.record.proofs.plain.are_numbers.Goals as goal
 

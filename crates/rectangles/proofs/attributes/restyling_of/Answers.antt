@@ -1,4 +1,4 @@
-use Rattle.std.proofs.Common.{◌≡◌, ◌-◌, length, refl, rules, le-ltb, lt-ltb}
+use Rattle.std.proofs.Common.{◌≡◌, length, refl, rules, le-ltb, lt-ltb}
 use Rattle.parser.proofs.ParamLaws.{list-more, list-end}
 use Rattle.rectangles.specs.Attributes.{restyling_of}
 use Rattle.rectangles.proofs.attributes.restyling_of.Goals as goal

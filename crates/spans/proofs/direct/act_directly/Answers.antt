@@ -73,12 +73,11 @@ in-ground c =
     ground c.args.core (byte_of c) c.requires.2
 
 pub control_step-done-requires : goal.control_step-done-requires
-control_step-done-requires c =
-    (
-      c.requires.0,
-      in-ground (goal.at.control_step-done-requires c).After-cursor-1,
-      rw (sym c.is_character.ensures ∙ c.if-is_character.false, sym c.is_edge.ensures ∙ c.if-is_edge.false) at (rest c.args.core (byte_of (goal.at.control_step-done-requires c).After-cursor-1) c.requires.2),
-    )
+control_step-done-requires c = (
+  c.requires.0,
+  in-ground (goal.at.control_step-done-requires c).After-cursor-1,
+  rw (sym c.is_character.ensures ∙ c.if-is_character.false, sym c.is_edge.ensures ∙ c.if-is_edge.false) at (rest c.args.core (byte_of (goal.at.control_step-done-requires c).After-cursor-1) c.requires.2),
+)
 
 -- CR
 pub returns-then-byte-eq-CR : goal.returns-then-byte-eq-CR

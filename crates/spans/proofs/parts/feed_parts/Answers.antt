@@ -1,4 +1,4 @@
-use Rattle.std.proofs.Common.{◌-◌, sym, refl, ◌∙◌, arith}
+use Rattle.std.proofs.Common.{sym, refl, ◌∙◌, arith}
 use Rattle.spans.specs.Spans.{Spanned}
 use Rattle.spans.specs.Parts.{with_parts}
 use Rattle.spans.proofs.SpannedLaws.{spanned-none, spanned-append, spanned-more, spanned-idle}

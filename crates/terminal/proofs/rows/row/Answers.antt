@@ -1,7 +1,7 @@
 -- Not refused, the row lies in the cells of the active display; refused, nothing is handed back.
 use Rattle.std.proofs.Common.{◌≡◌, ℕ, ◌+◌, ◌-◌, ◌*◌, ◌≤◌, List, length, sym, ap, ◌∙◌, subst, ap₂}
 use Rattle.cells.specs.Rows.{row}
-use Rattle.steps.specs.Steps.{Buffers, buffers}
+use Rattle.steps.specs.Steps.{buffers}
 use Rattle.terminal.specs.declared.Answer.{Answer}
 use Rattle.terminal.specs.Answers.{number, refusal}
 use Rattle.terminal.specs.Row.{row_answer, row_cells, row_read}

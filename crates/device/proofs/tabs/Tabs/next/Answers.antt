@@ -1,7 +1,7 @@
 -- At the last column and after it the search ends where it begins; before it, it is the quick search held to it.
 use Rattle.device.proofs.TabLaws.{next-none}
 use Rattle.device.proofs.TabSearchLaws.{search-held}
-use Rattle.std.proofs.Common.{sym, ◌∙◌, arith}
+use Rattle.std.proofs.Common.{sym}
 use Rattle.device.proofs.tabs.Tabs.next.Goals as goal
 
 pub returns-then-last-column : goal.returns-then-last-column

@@ -1,7 +1,6 @@
 use mathlib.Core.Path.{◌≡◌, sym, ap, ◌∙◌}
 use mathlib.Core.Bool.{Bool, true, false, cond}
-use mathlib.Core.Logic.{⊎_elim}
-use Prim.Native.Nat.{◌+◌, ◌-◌, ◌≤◌}
+use Prim.Native.Nat.{◌+◌, ◌≤◌}
 use native.Mathlib.Nat.{add-zero}
 use native.Mathlib.Omega.{arith}
 use Rattle.device.specs.TabSearch.{after, ends_at, searched}
@@ -18,9 +17,9 @@ met c =
     let self = c.args.self in
     let inside = c.loop-at-test.true in
     elim c.if-at-eq0.branch [
-      then-at-eq0 w ↦ rw (w.looks-is, w.empty-is, w.any-empty.ensures)
+      | then-at-eq0 w ↦ rw (w.looks-is, w.empty-is, w.any-empty.ensures)
           (turn-eight self c.loop-at.at inside w.if-at-eq0.true c.loop-at.looks ∙ c.loop-at.invariant)
-    | else-at-eq0 w ↦ rw (w.looks-is, w.empty-is)
+      | else-at-eq0 w ↦ rw (w.looks-is, w.empty-is)
           (ap (after c.loop-at.looks) (sym (turn-flag self c.loop-at.at inside w.if-at-eq0.false)) ∙ c.loop-at.invariant)
     ]
 
