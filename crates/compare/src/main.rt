@@ -9,7 +9,7 @@ use probes::output::{least, put, put_bytes, put_number, put_words};
 use probes::pokes::{number16, poke, poke_parser};
 use probes::views::put_displays;
 use std::io;
-use std::io::{BufReader, BufWriter, ErrorKind, Read, Write};
+use std::io::{ErrorKind, Read, Write};
 use steps::State;
 use terminal::answers::number;
 use terminal::calls::{ask, feed, read, start};
@@ -413,8 +413,8 @@ fn main(rt: HostRuntime) -> io::Result<()> {
     let mut input = [0u8; 65536];
     let mut reply = [0u8; 4096];
     let mut out = [0u8; 65536];
-    let mut reader = BufReader::new(rt.alloc(), rt.reader())?;
-    let mut writer = BufWriter::new(rt.alloc(), io::writer(&rt))?;
+    let mut reader = rt.reader();
+    let mut writer = io::writer(&rt);
     carry_out(
         &mut reader,
         &mut writer,
