@@ -98,7 +98,7 @@ pub fn pankholim_read(
 }
 
 // Reads a row of the active display, counted from 1: `part` is its 80 cells, where they lie in page or line, or none where
-// the call is refused. The record goes by value: so no walk by hand is needed.
+// the call is refused. The record goes by value (docs/DECISIONS.md).
 pub fn pankholim_row<'a>(
     terminal: Terminal,
     page: &'a [u16],

@@ -125,8 +125,8 @@ fn write_lines(
     pen: Pen,
 ) -> u8
     requires { TextFits rows page.old row column pen input.now from to }
-    ensures { LinesWritten (written_over rows newline pen (record { page = page.entry.now; row = row; column = column })
-        (span input.now from to)) page.exit.now result }
+    ensures { LinesWritten (written_over rows newline pen (record { page = page.old; row = row; column = column })
+        (span input.now from to)) page.new result }
 {
     let mut row = row;
     let mut column = column;
@@ -185,8 +185,8 @@ pub fn scroll_lines(
     known: u64,
 ) -> u8
     requires { LinesFit rows page.old top end column pen input.now from ahead }
-    ensures { record { page = page.exit.now; column = result } ≡ lines_over rows top end newline pen
-        (record { page = applied rows (ScrollUp top end 0 80 1) page.entry.now; column = cond newline 1 column })
+    ensures { record { page = page.new; column = result } ≡ lines_over rows top end newline pen
+        (record { page = applied rows (ScrollUp top end 0 80 1) page.old; column = cond newline 1 column })
         (span input.now from ahead.to) }
 {
     let feeds = ahead.feeds;

@@ -50,25 +50,21 @@ loop-i-preserved-then-line-leaves_line c =
 -- ---- on the page
 
 -- the turn ends in the input
-ends : (c : After-turn_end-end) → let t = (c) in
-    (t.loop-i.i < c.turn_end-end.result) × (c.turn_end-end.result ≤ length t.args.input.now)
+ends : (c : After-turn_end-end) → (c.loop-i.i < c.turn_end-end.result) × (c.turn_end-end.result ≤ length c.args.input.now)
 ends c =
-    let t = (c) in
-    end-within t.args.input.now t.loop-i.i t.loop-i-test.true c.tells_line.result c.turn_end-end.result c.turn_end-end.ensures
+    end-within c.args.input.now c.loop-i.i c.loop-i-test.true c.tells_line.result c.turn_end-end.result c.turn_end-end.ensures
 
 pub overflow_add-i-else-line-leaves_line : goal.overflow_add-i-else-line-leaves_line
 overflow_add-i-else-line-leaves_line c =
-    let t = (c.before.before.before.before.before.before.before.before.before.before.before.before.before.before) in
     omega (
       arith,
-      turn-within t.args.input.now t.loop-i.i t.loop-i-test.true c.turn_end-end.result c.feed_display-run-else-line-leaves_line.result.read c.feed_display-run-else-line-leaves_line.ensures.most,
-      t.well_formed.1.1.1.0,
+      turn-within c.args.input.now c.loop-i.i c.loop-i-test.true c.turn_end-end.result c.feed_display-run-else-line-leaves_line.result.read c.feed_display-run-else-line-leaves_line.ensures.most,
+      c.well_formed.1.1.1.0,
     )
 
 pub loop-i-smaller : goal.loop-i-smaller
 loop-i-smaller c =
-    let t = (c.before.before.before.before.before.before.before.before.before.before.before.before.before.before) in
-    omega (arith, t.loop-i-test.true, c.feed_display-run-else-line-leaves_line.ensures.some (span-some t.args.input.now t.loop-i.i t.loop-i-test.true c.turn_end-end.result (ends (goal.at.loop-i-smaller c).After-turn_end-end).0))
+    omega (arith, c.loop-i-test.true, c.feed_display-run-else-line-leaves_line.ensures.some (span-some c.args.input.now c.loop-i.i c.loop-i-test.true c.turn_end-end.result (ends (goal.at.loop-i-smaller c).After-turn_end-end).0))
 
 pub loop-i-preserved : goal.loop-i-preserved
 loop-i-preserved c =
@@ -85,7 +81,7 @@ pub loop-i-init : goal.loop-i-init
 loop-i-init c = fed-none _ _ _ _ c.requires.0 c.requires.1
 
 pub overflow_add-i : goal.overflow_add-i
-overflow_add-i c = let t = (c.before) in omega (arith, t.loop-i-test.true, t.well_formed.1.1.1.0)
+overflow_add-i c = omega (arith, c.loop-i-test.true, c.well_formed.1.1.1.0)
 
 pub slice_bounds-feed_display-end : goal.slice_bounds-feed_display-end
 slice_bounds-feed_display-end c = omega (arith, c.loop-i-test.true)

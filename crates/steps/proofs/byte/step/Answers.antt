@@ -20,10 +20,8 @@ decides : (c : Core) (b : ℕ) (d : Decoded) (x : Decision) → d ≡ decode c.p
 unfolding decided
 decides c b d x ed ex = ex ∙ ap (λ (y : Decoded). executed (with_parser c y.parser) y.action) ed
 
-is-decided : (d : After-execute-decision) → let start = d.before.before.before in d.execute-decision.result ≡ decided start.args.core start.args.byte
-is-decided d =
-    let start = d.before.before.before in
-    decides start.args.core start.args.byte start.args.decoded d.execute-decision.result start.requires.1 d.execute-decision.ensures
+is-decided : (c : After-execute-decision) → c.execute-decision.result ≡ decided c.args.core c.args.byte
+is-decided c = decides c.args.core c.args.byte c.args.decoded c.execute-decision.result c.requires.1 c.execute-decision.ensures
 
 pub apply-one-requires : goal.apply-one-requires
 apply-one-requires c =
