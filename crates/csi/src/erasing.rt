@@ -8,7 +8,7 @@ use cells::{BLANK, CellChange};
 use core_state::effects::one_edit;
 use core_state::{Core, Decision};
 use device::cursor::Cursor;
-use ground::numbers::{capped, pick_wide};
+use ground::numbers::{capped, pick};
 use page::Edit;
 
 // A range of cells in reading order: it ends before `to`.
@@ -25,8 +25,8 @@ fn selected(cursor: Cursor, selector: u16, base: u16, end: u16) -> Range
 {
     let at = cursor.offset();
     Range {
-        from: pick_wide(selector == 0, at, base),
-        to: pick_wide(selector == 1, at + 1, end),
+        from: pick(selector == 0, at, base),
+        to: pick(selector == 1, at + 1, end),
     }
 }
 

@@ -9,12 +9,10 @@ use crate::writing::write_byte;
 pub fn decimal_len(n: u8) -> usize
     ensures { Counted (decimal n) 3 result }
 {
-    if n < 10 {
-        1
-    } else if n < 100 {
-        2
-    } else {
-        3
+    match n {
+        0..=9 => 1,
+        10..=99 => 2,
+        _ => 3,
     }
 }
 

@@ -1,4 +1,4 @@
--- Each end is what `pick_wide` says at the cursor's offset.
+-- Each end is what `pick` says at the cursor's offset.
 use Rattle.std.proofs.Common.{refl, rules}
 use Rattle.csi.proofs.erasing.selected.Goals as goal
 
@@ -6,4 +6,4 @@ pub overflow_add-at : goal.overflow_add-at
 overflow_add-at c = search (rules, c.offset-at.ensures)
 
 pub returns : goal.returns
-returns c = rw (c.pick_wide-2.ensures, c.pick_wide.ensures, c.offset-at.ensures) (refl, refl)
+returns c = rw (c.pick-2.ensures, c.pick.ensures, c.offset-at.ensures) (refl, refl)
