@@ -1,9 +1,9 @@
 // Characters put into the cells of one row, in blocks where that is possible. The words of a block are made beside the
 // page, so that the compiler may read and write many at once.
 ghost use Rattle.std.specs.Prelude.{◌≡◌, true, ◌+◌, ◌≤◌, length};
-ghost use Rattle.cells.specs.Segments.{Pasted};
 ghost use Rattle.cells.specs.Runs.{is_character, pen_word, PenFits, Plain, BlockWords, PutSome, PutCharacters};
 
+use crate::segments::paste_words;
 use ground::tests::between;
 
 // What characters are put with: the word of a code of GL is `left` and the code, of GR `right` and the code, of the
@@ -53,12 +53,11 @@ fn is_plain(input: &[u8], from: usize, len: usize, low: u8) -> bool
     requires { from + len ≤ length input.now }
     ensures { result ≡ true → Plain input.now from len low }
 {
+    // No early exit, so that the compiler may test many at once.
     let mut plain = true;
-    let mut k = 0;
-    while k < len {
+    for k in 0..len {
         let byte = input[from + k];
-        plain = plain & ((low <= byte) & (byte <= 0x7E));
-        k += 1;
+        plain &= (low <= byte) & (byte <= 0x7E);
     }
     plain
 }
@@ -67,28 +66,11 @@ fn block_words(input: &[u8], from: usize, len: usize, base: u16) -> [u16; 16]
     requires { (from + len ≤ length input.now) × (len ≤ 16) × (base ≤ 65280) }
     ensures { BlockWords result input.now from len base }
 {
-    let mut words = [0u16; 16];
-    let mut k = 0;
-    while k < len {
+    let mut words = [0; 16];
+    for k in 0..len {
         words[k] = base + input[from + k] as u16;
-        k += 1;
     }
     words
-}
-
-fn paste_block(page: &mut [u16], to: usize, len: usize, words: &[u16]) -> bool
-    requires { (to + len ≤ length page.old) × (len ≤ length words.now) }
-    ensures { Pasted page.old page.new to words.now len result }
-{
-    let mut changed = false;
-    let mut k = 0;
-    while k < len {
-        let word = words[k];
-        changed = changed | (page[to + k] != word);
-        page[to + k] = word;
-        k += 1;
-    }
-    changed
 }
 
 fn put_block(page: &mut [u16], to: usize, len: usize, input: &[u8], from: usize, pen: Pen) -> bool
@@ -96,7 +78,7 @@ fn put_block(page: &mut [u16], to: usize, len: usize, input: &[u8], from: usize,
     ensures { PutSome page.old page.new to input.now from pen len result }
 {
     let words = block_words(input, from, len, pen.left);
-    paste_block(page, to, len, &words)
+    paste_words(page, to, len, |k, _| words[k])
 }
 
 // ---- characters of a row, `most` at the most
@@ -112,7 +94,7 @@ fn put_blocks(page: &mut [u16], to: usize, most: usize, input: &[u8], from: usiz
         if !is_plain(input, from + k, 16, pen.low) {
             return Put { count: k, changed };
         }
-        changed = changed | put_block(page, to + k, 16, input, from + k, pen);
+        changed |= put_block(page, to + k, 16, input, from + k, pen);
         k += 16;
     }
     Put { count: k, changed }
@@ -152,16 +134,17 @@ pub fn put_characters(
 {
     let plain = put_plain(page, to, most, input, from, pen);
     let mut changed = plain.changed;
-    let mut k = plain.count;
-    while k < most {
+    for k in plain.count..most {
         let byte = input[from + k];
         if !is_character(byte) {
             return Put { count: k, changed };
         }
         let word = pen_word(pen, byte);
-        changed = changed | (page[to + k] != word);
+        changed |= page[to + k] != word;
         page[to + k] = word;
-        k += 1;
     }
-    Put { count: k, changed }
+    Put {
+        count: most,
+        changed,
+    }
 }

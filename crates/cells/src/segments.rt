@@ -1,6 +1,6 @@
 // Segments: runs of words in a lent slice. Each function writes each word of its segment once. All but `copy_over`
 // and `fill_over` compare it with the one that stood there, and say whether some word changed.
-ghost use Rattle.std.specs.Prelude.{map, ◌⊎◌, ◌≡◌, ◌+◌, ◌≤◌, length, drop, replicate};
+ghost use Rattle.std.specs.Prelude.{List, map, ◌⊎◌, ◌≡◌, ℕ, ◌+◌, ◌≤◌, ◌<◌, length, slice_index, drop, replicate};
 ghost use Rattle.std.proofs.Math.Seq.{paste};
 ghost use Rattle.cells.specs.Cells.{changed_by};
 ghost use Rattle.cells.specs.Segments.{Pasted};
@@ -8,18 +8,39 @@ ghost use Rattle.cells.specs.Segments.{Pasted};
 use crate::words::changed_by;
 use crate::{COLUMNS, CellChange};
 
+// Word k of the `len` from `to` on becomes what `word` makes of k and of the word that stood there.
+pub fn paste_words<F: Fn(usize, u16) -> u16>(
+    page: &mut [u16],
+    to: usize,
+    len: usize,
+    word: F,
+) -> bool
+    requires fits { to + len ≤ length page.old }
+    requires callable { (k w : ℕ) → k < len → F.pre word k w }
+    ensures { (s : List ℕ) → len ≤ length s
+        → ((k w : ℕ) → k < len → F.post word k (slice_index page.old (to + k)) w → w ≡ slice_index s k)
+        → Pasted page.old page.new to s len result }
+{
+    let mut changed = false;
+    for k in 0..len {
+        let old = page[to + k];
+        let new = word(k, old);
+        changed |= old != new;
+        page[to + k] = new;
+    }
+    changed
+}
+
 // Copies `len` words from `from` to `to`, the first word first.
 fn copy_upward(page: &mut [u16], to: usize, from: usize, len: usize) -> bool
     requires { (from + len ≤ length page.old) × (to + len ≤ length page.old) × ((to ≤ from) ⊎ (from + len ≤ to)) }
     ensures { Pasted page.old page.new to (drop from page.old) len result }
 {
     let mut changed = false;
-    let mut k = 0;
-    while k < len {
+    for k in 0..len {
         let word = page[from + k];
-        changed = changed | (page[to + k] != word);
+        changed |= page[to + k] != word;
         page[to + k] = word;
-        k += 1;
     }
     changed
 }
@@ -30,11 +51,9 @@ fn copy_downward(page: &mut [u16], to: usize, from: usize, len: usize) -> bool
     ensures { Pasted page.old page.new to (drop from page.old) len result }
 {
     let mut changed = false;
-    let mut k = len;
-    while 0 < k {
-        k -= 1;
+    for k in (0..len).rev() {
         let word = page[from + k];
-        changed = changed | (page[to + k] != word);
+        changed |= page[to + k] != word;
         page[to + k] = word;
     }
     changed
@@ -53,15 +72,14 @@ pub fn copy_columns(page: &mut [u16], to: usize, from: usize, len: usize) -> boo
     }
 }
 
-// Copies a row's length of words from `from` to `to`, and compares none.
+// Copies a row's length of words from `from` to `to`, and compares none. (A loop, since `copy_within` tests in each call
+// which way to go.)
 pub fn copy_over(page: &mut [u16], to: usize, from: usize)
     requires { (from + 80 ≤ length page.old) × (to + 80 ≤ length page.old) × ((to ≤ from) ⊎ (from + 80 ≤ to)) }
     ensures { page.new ≡ paste page.old to (drop from page.old) 80 }
 {
-    let mut k = 0;
-    while k < COLUMNS {
+    for k in 0..COLUMNS {
         page[to + k] = page[from + k];
-        k += 1;
     }
 }
 
@@ -82,14 +100,7 @@ pub fn fill_words(page: &mut [u16], to: usize, len: usize, word: u16) -> bool
     requires { to + len ≤ length page.old }
     ensures { Pasted page.old page.new to (replicate len word) len result }
 {
-    let mut changed = false;
-    let mut k = 0;
-    while k < len {
-        changed = changed | (page[to + k] != word);
-        page[to + k] = word;
-        k += 1;
-    }
-    changed
+    paste_words(page, to, len, |_, _| word)
 }
 
 // The same in columns of one row; a row's length is written out here too.
@@ -104,15 +115,14 @@ pub fn fill_columns(page: &mut [u16], to: usize, len: usize, word: u16) -> bool
     }
 }
 
-// A row's length of words from `to` on become `word`, and none is compared.
+// A row's length of words from `to` on become `word`, and none is compared. (A loop, since `fill` stores the last word
+// apart: 80 words are ten stores, 79 and one are seventeen.)
 pub fn fill_over(page: &mut [u16], to: usize, word: u16)
     requires { to + 80 ≤ length page.old }
     ensures { page.new ≡ paste page.old to (replicate 80 word) 80 }
 {
-    let mut k = 0;
-    while k < COLUMNS {
+    for k in 0..COLUMNS {
         page[to + k] = word;
-        k += 1;
     }
 }
 
@@ -121,14 +131,5 @@ pub fn change_words(page: &mut [u16], to: usize, len: usize, change: CellChange)
     requires { to + len ≤ length page.old }
     ensures { Pasted page.old page.new to (map (changed_by change) (drop to page.old)) len result }
 {
-    let mut changed = false;
-    let mut k = 0;
-    while k < len {
-        let old = page[to + k];
-        let word = changed_by(change, old);
-        changed = changed | (old != word);
-        page[to + k] = word;
-        k += 1;
-    }
-    changed
+    paste_words(page, to, len, |_, old| changed_by(change, old))
 }

@@ -2,7 +2,6 @@ use mathlib.Core.Bool.{◌&&◌}
 use lib.Dec.{leb}
 use lib.ListN.{get_or}
 use borrow.Author.Count.{below_more}
-use native.Mathlib.Omega.{arith}
 use Prim.Native.Nat.{◌+◌}
 use Rattle.ground.proofs.TestLaws.{and_left, and_right}
 use Rattle.cells.proofs.runs.is_plain.Goals as goal
@@ -11,10 +10,4 @@ pub loop-k-preserved : goal.loop-k-preserved
 loop-k-preserved c =
     let byte = get_or c.args.input.now (c.args.from + c.loop-k.k) 0 in
     let here = leb c.args.low byte && leb byte 0x7E in
-    (omega arith, λ e. below_more _ _ (c.loop-k.invariant.1 (and_left c.loop-k.plain here e)) (and_right c.loop-k.plain here e))
-
-pub loop-k-init : goal.loop-k-init
-loop-k-init c = (omega arith, λ e j h. absurd (omega arith))
-
-pub returns : goal.returns
-returns c e j h = c.loop-k.invariant.1 e j (omega arith)
+    λ e. below_more _ _ (c.loop-k.invariant (and_left c.loop-k.plain here e)) (and_right c.loop-k.plain here e)

@@ -10,4 +10,4 @@ pub returns : goal.returns
 returns c =
     let pre = c.requires in
     let long : length c.block_words-words.result ≡ 16 = search rules in
-    put-block _ pre.3 (omega arith) pre.1 pre.4 c.block_words-words.ensures c.paste_block.ensures
+    put-block _ pre.3 (omega arith) pre.1 pre.4 c.block_words-words.ensures (c.paste_words.ensures _ (omega arith) (λ k w l e. search rules))

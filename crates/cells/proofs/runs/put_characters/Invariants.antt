@@ -2,14 +2,10 @@
 use mathlib.Core.Path.{◌≡◌}
 use mathlib.Core.List.{List}
 use lib.ListN.{length}
-use Prim.Native.Nat.{ℕ, ◌-◌, ◌≤◌}
 use Rattle.cells.specs.Runs.{PutSome}
 use Rattle.cells.proofs.runs.put_characters.Given as goal
 
 abbrev pub invariant-loop-k : goal.invariant-loop-k
 invariant-loop-k l =
-    (l.k ≤ l.most) × (length l.page ≡ length l.initial.page)
-    × ((p : List ℕ) → length p ≡ length l.initial.page → PutSome p l.initial.page l.to l.input l.from l.pen l.initial.k l.initial.changed → PutSome p l.page l.to l.input l.from l.pen l.k l.changed)
-
-abbrev pub decreases-loop-k : goal.decreases-loop-k
-decreases-loop-k l = l.most - l.k
+    (p : List _) → length p ≡ length l.initial.page → PutSome p l.initial.page l.to l.input l.from l.pen l.initial.k l.initial.changed
+    → PutSome p l.page l.to l.input l.from l.pen l.k l.changed
