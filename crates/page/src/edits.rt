@@ -104,11 +104,10 @@ fn fill_range(page: &mut [u16], from: u16, to: u16, word: u16, known: u64) -> u6
     ensures { EditedOver (FillRange from to word) page.old page.new known result }
 {
     let mut bits = known;
-    let mut k = (from / WIDTH) as u8;
+    let first = (from / WIDTH) as u8;
     let end = ((to + LAST) / WIDTH) as u8;
-    while k < end {
+    for k in first..end {
         bits = fill_row(page, k, column_in(from, k), column_in(to, k), word, bits);
-        k += 1;
     }
     bits
 }
@@ -119,11 +118,10 @@ fn change_range(page: &mut [u16], from: u16, to: u16, change: CellChange) -> u64
     ensures { Edited (ChangeRange from to change) page.old page.new result }
 {
     let mut bits = 0;
-    let mut k = (from / WIDTH) as u8;
+    let first = (from / WIDTH) as u8;
     let end = ((to + LAST) / WIDTH) as u8;
-    while k < end {
+    for k in first..end {
         bits |= change_row(page, k, column_in(from, k), column_in(to, k), change);
-        k += 1;
     }
     bits
 }

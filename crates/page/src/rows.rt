@@ -109,7 +109,8 @@ pub fn change_row(page: &mut [u16], at: u8, left: u8, right: u8, change: CellCha
     row_bit(at, changed)
 }
 
-// ---- columns `left` to `right` of rows `top` to `end`
+// ---- columns `left` to `right` of rows `top` to `end` (each with its own loop: a loop that they share would take a closure
+// over the page, and each of its calls be as long as these)
 
 // They become as many of the rows `count` below, from `column` on.
 pub fn raise_rows(
@@ -127,10 +128,8 @@ pub fn raise_rows(
         (λ j. overlaid_from (row page.old j) left right (row page.old (j + count)) column) known result }
 {
     let mut bits = known;
-    let mut k = top;
-    while k < end {
+    for k in top..end {
         bits = move_row(page, k, k + count, left, right, column, bits);
-        k += 1;
     }
     bits
 }
@@ -152,9 +151,7 @@ pub fn lower_rows(
 {
     let mut bits = known;
     if 0 < count {
-        let mut k = end;
-        while top < k {
-            k -= 1;
+        for k in (top..end).rev() {
             bits = lower_row(page, k, count - 1, left, right, column, bits);
         }
     }
@@ -168,10 +165,8 @@ pub fn slide_rows(page: &mut [u16], top: u8, end: u8, left: u8, right: u8, colum
         (λ j. overlaid_from (row page.old j) left right (row page.old j) column) result }
 {
     let mut bits = 0;
-    let mut k = top;
-    while k < end {
+    for k in top..end {
         bits |= slide_row(page, k, left, right, column);
-        k += 1;
     }
     bits
 }
@@ -191,10 +186,8 @@ pub fn fill_rows(
         (λ j. overlaid (row page.old j) left right (replicate 80 word)) known result }
 {
     let mut bits = known;
-    let mut k = top;
-    while k < end {
+    for k in top..end {
         bits = fill_row(page, k, left, right, word, bits);
-        k += 1;
     }
     bits
 }
@@ -213,10 +206,8 @@ pub fn change_rows(
         (λ j. changed_row change (row page.old j) left right) result }
 {
     let mut bits = 0;
-    let mut k = top;
-    while k < end {
+    for k in top..end {
         bits |= change_row(page, k, left, right, change);
-        k += 1;
     }
     bits
 }

@@ -1,5 +1,4 @@
 -- Rows from `top` to `k` are done.
-use Prim.Native.Nat.{◌-◌}
 use Rattle.cells.specs.Rows.{row}
 use Rattle.page.specs.Edits.{changed_row}
 use Rattle.page.proofs.KnownBlocks.{UpwardOver}
@@ -7,6 +6,3 @@ use Rattle.page.proofs.rows.change_rows.Given as goal
 
 abbrev pub invariant-loop-k : goal.invariant-loop-k
 invariant-loop-k l = UpwardOver l.top l.end l.initial.page (λ j. changed_row l.change (row l.initial.page j) l.left l.right) l.page 0 l.bits l.k
-
-abbrev pub decreases-loop-k : goal.decreases-loop-k
-decreases-loop-k l = l.end - l.k

@@ -9,6 +9,3 @@ use Rattle.page.proofs.rows.lower_rows.Given as goal
 abbrev pub invariant-loop-k : goal.invariant-loop-k
 invariant-loop-k l = (l.top ≤ l.k) × (l.k ≤ l.end) × RedoneOver l.initial.page l.page (in_range l.k l.end)
     (λ j. overlaid_from (row l.initial.page j) l.left l.right (row l.initial.page (j - l.count)) l.column) l.known l.bits
-
-abbrev pub decreases-loop-k : goal.decreases-loop-k
-decreases-loop-k l = l.k

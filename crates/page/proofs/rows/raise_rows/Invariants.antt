@@ -1,5 +1,5 @@
 -- Rows from `top` to `k` are done. The row that row k takes is not done yet, since the loop goes from the first row to the last and takes from below.
-use Prim.Native.Nat.{◌+◌, ◌-◌}
+use Prim.Native.Nat.{◌+◌}
 use Rattle.cells.specs.Rows.{row}
 use Rattle.page.specs.Edits.{overlaid_from}
 use Rattle.page.proofs.KnownBlocks.{UpwardOver}
@@ -8,6 +8,3 @@ use Rattle.page.proofs.rows.raise_rows.Given as goal
 abbrev pub invariant-loop-k : goal.invariant-loop-k
 invariant-loop-k l =
     UpwardOver l.top l.end l.initial.page (λ j. overlaid_from (row l.initial.page j) l.left l.right (row l.initial.page (j + l.count)) l.column) l.page l.known l.bits l.k
-
-abbrev pub decreases-loop-k : goal.decreases-loop-k
-decreases-loop-k l = l.end - l.k
