@@ -2,6 +2,7 @@
 use Rattle.std.specs.Prelude.{Bool, true, cond, List, ◌≡◌, ℕ, ◌*◌, ◌≤◌, length}
 use Rattle.std.specs.Int.Bits.{bit_or}
 use Rattle.page.specs.declared.Edit.{Edit}
+use Rattle.page.specs.declared.rows.Block.{Block}
 use Rattle.cells.specs.Rows.{row}
 use Rattle.cells.specs.Sets.{bits_of, changed}
 use Rattle.page.specs.Edits.{after, applied, Within}
@@ -31,6 +32,10 @@ pub record BlockFits (p : List ℕ) (t e a z : ℕ) : Type 0 where
   pub few : e ≤ 64
   pub left : a ≤ z
   pub right : z ≤ 80
+
+-- and so do those of a block
+abbrev pub OnPage : List ℕ → Block → Type 0
+OnPage p b = BlockFits p b.top b.end b.left b.right
 
 -- an edit that stays on a page of n rows, which are not more than a u64 has bits
 pub record Fits (n : ℕ) (e : Edit) (p : List ℕ) : Type 0 where

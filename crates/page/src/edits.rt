@@ -1,14 +1,14 @@
 // Edits: one function for each, and `apply` for any.
 ghost use Rattle.std.specs.Prelude.{◌≡◌, ◌+◌, ◌-◌, ◌/◌, ◌≤◌, length, replicate};
 ghost use Rattle.page.specs.declared.Edit.TheVariants.{Put, InsertCells, DeleteCells, ScrollUp, ScrollDown};
-ghost use Rattle.page.specs.declared.Edit.TheVariants.{FillRange, ChangeRange, FillRectangle, ChangeRectangle, CopyRectangle};
+ghost use Rattle.page.specs.declared.Edit.TheVariants.{FillRange, ChangeRange, CopyRectangle};
 ghost use Rattle.cells.specs.Cells.{blank};
 ghost use Rattle.page.specs.Edits.{range_start};
-ghost use Rattle.page.specs.Writes.{Edited, EditedOver, BlockFits, Fits, AppliedOver};
+ghost use Rattle.page.specs.Writes.{Edited, EditedOver, BlockFits, OnPage, Fits, AppliedOver};
 
 use crate::Edit;
 use crate::rows::{
-    change_row, change_rows, fill_row, fill_rows, lower_rows, place, raise_rows, slide_rows,
+    Block, change_row, change_rows, fill_row, fill_rows, lower_rows, place, raise_rows, slide_rows,
 };
 use cells::marks::row_bit;
 use cells::segments::{copy_words, fill_words};
@@ -57,31 +57,40 @@ fn delete_cells(page: &mut [u16], row: u8, column: u8, end: u8, count: u8) -> u6
 }
 
 // Rows go up, and blanks enter below.
-fn scroll_up(page: &mut [u16], top: u8, end: u8, left: u8, right: u8, count: u8, known: u64) -> u64
-    requires { BlockFits page.old top end left right × (count ≤ end - top) }
-    ensures { EditedOver (ScrollUp top end left right count) page.old page.new known result }
+fn scroll_up(page: &mut [u16], block: Block, count: u8, known: u64) -> u64
+    requires { OnPage page.old block × (count ≤ block.end - block.top) }
+    ensures { EditedOver (ScrollUp block.top block.end block.left block.right count) page.old page.new known result }
 {
-    let last = end - count;
-    let moved = raise_rows(page, top, last, left, right, count, left, known);
-    fill_rows(page, last, end, left, right, BLANK, moved)
+    let last = block.end - count;
+    let moved = raise_rows(page, Block { end: last, ..block }, count, block.left, known);
+    fill_rows(page, Block { top: last, ..block }, BLANK, moved)
 }
 
 // Rows go down, and blanks enter above.
-fn scroll_down(
-    page: &mut [u16],
-    top: u8,
-    end: u8,
-    left: u8,
-    right: u8,
-    count: u8,
-    known: u64,
-) -> u64
-    requires { BlockFits page.old top end left right × (count ≤ end - top) }
-    ensures { EditedOver (ScrollDown top end left right count) page.old page.new known result }
+fn scroll_down(page: &mut [u16], block: Block, count: u8, known: u64) -> u64
+    requires { OnPage page.old block × (count ≤ block.end - block.top) }
+    ensures { EditedOver (ScrollDown block.top block.end block.left block.right count) page.old page.new known result }
 {
-    let first = top + count;
-    let moved = lower_rows(page, first, end, left, right, count, left, known);
-    fill_rows(page, top, first, left, right, BLANK, moved)
+    let first = block.top + count;
+    let moved = lower_rows(
+        page,
+        Block {
+            top: first,
+            ..block
+        },
+        count,
+        block.left,
+        known,
+    );
+    fill_rows(
+        page,
+        Block {
+            end: first,
+            ..block
+        },
+        BLANK,
+        moved,
+    )
 }
 
 // The column at which a place in reading order meets a row: 0 if it lies before it, 80 if behind it.
@@ -126,58 +135,20 @@ fn change_range(page: &mut [u16], from: u16, to: u16, change: CellChange) -> u64
     bits
 }
 
-// Each cell of a rectangle becomes `word`.
-fn fill_rectangle(
-    page: &mut [u16],
-    top: u8,
-    end: u8,
-    left: u8,
-    right: u8,
-    word: u16,
-    known: u64,
-) -> u64
-    requires { BlockFits page.old top end left right }
-    ensures { EditedOver (FillRectangle top end left right word) page.old page.new known result }
+// Each cell of a block becomes what stood at its place in another of the same size, which begins at `row` and `column`.
+// The rows are written in an order in which none is read after it was written.
+fn copy_rectangle(page: &mut [u16], block: Block, row: u8, column: u8) -> u64
+    requires { OnPage page.old block
+        × BlockFits page.old row (row + (block.end - block.top)) column (column + (block.right - block.left)) }
+    ensures { Edited (CopyRectangle block.top block.end block.left block.right row column) page.old page.new result }
 {
-    fill_rows(page, top, end, left, right, word, known)
-}
-
-// Each cell of a rectangle changes by what it holds.
-fn change_rectangle(
-    page: &mut [u16],
-    top: u8,
-    end: u8,
-    left: u8,
-    right: u8,
-    change: CellChange,
-) -> u64
-    requires { BlockFits page.old top end left right }
-    ensures { Edited (ChangeRectangle top end left right change) page.old page.new result }
-{
-    change_rows(page, top, end, left, right, change)
-}
-
-// Each cell of a rectangle becomes what stood at its place in another. The rows are written in an order in
-// which none is read after it was written.
-fn copy_rectangle(
-    page: &mut [u16],
-    top: u8,
-    end: u8,
-    left: u8,
-    right: u8,
-    row: u8,
-    column: u8,
-) -> u64
-    requires { BlockFits page.old top end left right × BlockFits page.old row (row + (end - top)) column (column + (right - left)) }
-    ensures { Edited (CopyRectangle top end left right row column) page.old page.new result }
-{
-    if top == row {
-        return slide_rows(page, top, end, left, right, column);
+    if block.top == row {
+        return slide_rows(page, block, column);
     }
-    if top < row {
-        return raise_rows(page, top, end, left, right, row - top, column, 0);
+    if block.top < row {
+        return raise_rows(page, block, row - block.top, column, 0);
     }
-    lower_rows(page, top, end, left, right, top - row, column, 0)
+    lower_rows(page, block, block.top - row, column, 0)
 }
 
 // Any edit. Each function goes by the edit's own numbers, so `rows` is there for the promise alone. `known` are the
@@ -208,14 +179,14 @@ pub fn change(edit: Edit, page: &mut [u16], rows: u8, known: u64) -> u64
             left,
             right,
             count,
-        } => scroll_up(page, top, end, left, right, count, known),
+        } => scroll_up(page, Block::new(top, end, left, right), count, known),
         Edit::ScrollDown {
             top,
             end,
             left,
             right,
             count,
-        } => scroll_down(page, top, end, left, right, count, known),
+        } => scroll_down(page, Block::new(top, end, left, right), count, known),
         Edit::FillRange { from, to, word } => fill_range(page, from, to, word, known),
         Edit::ChangeRange { from, to, change } => known | change_range(page, from, to, change),
         Edit::FillRectangle {
@@ -224,14 +195,14 @@ pub fn change(edit: Edit, page: &mut [u16], rows: u8, known: u64) -> u64
             left,
             right,
             word,
-        } => fill_rectangle(page, top, end, left, right, word, known),
+        } => fill_rows(page, Block::new(top, end, left, right), word, known),
         Edit::ChangeRectangle {
             top,
             end,
             left,
             right,
             change,
-        } => known | change_rectangle(page, top, end, left, right, change),
+        } => known | change_rows(page, Block::new(top, end, left, right), change),
         Edit::CopyRectangle {
             top,
             end,
@@ -239,7 +210,7 @@ pub fn change(edit: Edit, page: &mut [u16], rows: u8, known: u64) -> u64
             right,
             row,
             column,
-        } => known | copy_rectangle(page, top, end, left, right, row, column),
+        } => known | copy_rectangle(page, Block::new(top, end, left, right), row, column),
     }
 }
 

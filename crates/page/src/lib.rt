@@ -8,7 +8,8 @@ use cells::CellChange;
 
 // What one step does to a page. Rows and columns are counted from 0, and a range ends before its
 // `end`, `right` or `to`. `from` and `to` count cells in reading order. The scope moves whole rows,
-// columns 0 to 80, and cells up to the row's end; the ranges are there for margins to come.
+// columns 0 to 80, and cells up to the row's end; the ranges are there for margins to come. A block stands as its four
+// numbers (rows::Block is no shorter where an edit is built, and the definitions and theorems of six crates match these).
 #[derive(Clone, Copy)]
 pub enum Edit {
     Keep,

@@ -4,11 +4,33 @@ ghost use Rattle.std.specs.Prelude.{◌⊎◌, ◌≡◌, ◌+◌, ◌-◌, ◌*
 ghost use Rattle.std.proofs.Math.Seq.{paste};
 ghost use Rattle.cells.specs.Rows.{row};
 ghost use Rattle.page.specs.Edits.{overlaid, overlaid_from, changed_row, in_range};
-ghost use Rattle.page.specs.Writes.{Redone, RedoneOver, BlockFits};
+ghost use Rattle.page.specs.Writes.{Redone, RedoneOver, BlockFits, OnPage};
 
 use cells::marks::{has_bit, row_bit};
 use cells::segments::{change_words, copy_columns, copy_over, copy_words, fill_columns, fill_over};
 use cells::{COLUMNS, CellChange};
+
+// Rows `top` to `end` in the columns `left` to `right`.
+#[derive(Clone, Copy)]
+pub struct Block {
+    pub top: u8,
+    pub end: u8,
+    pub left: u8,
+    pub right: u8,
+}
+
+impl Block {
+    pub fn new(top: u8, end: u8, left: u8, right: u8) -> Self
+        ensures { result ≡ record { top = top; end = end; left = left; right = right } }
+    {
+        Block {
+            top,
+            end,
+            left,
+            right,
+        }
+    }
+}
 
 // Where a cell stands in the page.
 pub fn place(row: u8, column: u8) -> usize
@@ -109,105 +131,73 @@ pub fn change_row(page: &mut [u16], at: u8, left: u8, right: u8, change: CellCha
     row_bit(at, changed)
 }
 
-// ---- columns `left` to `right` of rows `top` to `end` (each with its own loop: a loop that they share would take a closure
-// over the page, and each of its calls be as long as these)
+// ---- a block (each function with its own loop: a loop that they share would take a closure over the page, and each of
+// its calls be as long as these)
 
-// They become as many of the rows `count` below, from `column` on.
-pub fn raise_rows(
-    page: &mut [u16],
-    top: u8,
-    end: u8,
-    left: u8,
-    right: u8,
-    count: u8,
-    column: u8,
-    known: u64,
-) -> u64
-    requires { BlockFits page.old top (end + count) left right × (top ≤ end) × (column + (right - left) ≤ 80) × (left ≤ column + 80 * count) }
-    ensures { RedoneOver page.old page.new (in_range top end)
-        (λ j. overlaid_from (row page.old j) left right (row page.old (j + count)) column) known result }
+// Its rows become as many of the rows `count` below, from `column` on.
+pub fn raise_rows(page: &mut [u16], block: Block, count: u8, column: u8, known: u64) -> u64
+    requires { BlockFits page.old block.top (block.end + count) block.left block.right × (block.top ≤ block.end)
+        × (column + (block.right - block.left) ≤ 80) × (block.left ≤ column + 80 * count) }
+    ensures { RedoneOver page.old page.new (in_range block.top block.end)
+        (λ j. overlaid_from (row page.old j) block.left block.right (row page.old (j + count)) column) known result }
 {
     let mut bits = known;
-    for k in top..end {
-        bits = move_row(page, k, k + count, left, right, column, bits);
+    for k in block.top..block.end {
+        bits = move_row(page, k, k + count, block.left, block.right, column, bits);
     }
     bits
 }
 
 // They become as many of the rows `count` above.
-pub fn lower_rows(
-    page: &mut [u16],
-    top: u8,
-    end: u8,
-    left: u8,
-    right: u8,
-    count: u8,
-    column: u8,
-    known: u64,
-) -> u64
-    requires { BlockFits page.old top end left right × (count ≤ top) × (column + (right - left) ≤ 80) × (count ≡ 0 → column ≡ left) }
-    ensures { RedoneOver page.old page.new (in_range top end)
-        (λ j. overlaid_from (row page.old j) left right (row page.old (j - count)) column) known result }
+pub fn lower_rows(page: &mut [u16], block: Block, count: u8, column: u8, known: u64) -> u64
+    requires { OnPage page.old block × (count ≤ block.top) × (column + (block.right - block.left) ≤ 80) × (count ≡ 0 → column ≡ block.left) }
+    ensures { RedoneOver page.old page.new (in_range block.top block.end)
+        (λ j. overlaid_from (row page.old j) block.left block.right (row page.old (j - count)) column) known result }
 {
     let mut bits = known;
     if 0 < count {
-        for k in (top..end).rev() {
-            bits = lower_row(page, k, count - 1, left, right, column, bits);
+        for k in (block.top..block.end).rev() {
+            bits = lower_row(page, k, count - 1, block.left, block.right, column, bits);
         }
     }
     bits
 }
 
 // They become as many of their own rows.
-pub fn slide_rows(page: &mut [u16], top: u8, end: u8, left: u8, right: u8, column: u8) -> u64
-    requires { BlockFits page.old top end left right × (column + (right - left) ≤ 80) }
-    ensures { Redone page.old page.new (in_range top end)
-        (λ j. overlaid_from (row page.old j) left right (row page.old j) column) result }
+pub fn slide_rows(page: &mut [u16], block: Block, column: u8) -> u64
+    requires { OnPage page.old block × (column + (block.right - block.left) ≤ 80) }
+    ensures { Redone page.old page.new (in_range block.top block.end)
+        (λ j. overlaid_from (row page.old j) block.left block.right (row page.old j) column) result }
 {
     let mut bits = 0;
-    for k in top..end {
-        bits |= slide_row(page, k, left, right, column);
+    for k in block.top..block.end {
+        bits |= slide_row(page, k, block.left, block.right, column);
     }
     bits
 }
 
 // They become `word`.
-pub fn fill_rows(
-    page: &mut [u16],
-    top: u8,
-    end: u8,
-    left: u8,
-    right: u8,
-    word: u16,
-    known: u64,
-) -> u64
-    requires { BlockFits page.old top end left right }
-    ensures { RedoneOver page.old page.new (in_range top end)
-        (λ j. overlaid (row page.old j) left right (replicate 80 word)) known result }
+pub fn fill_rows(page: &mut [u16], block: Block, word: u16, known: u64) -> u64
+    requires { OnPage page.old block }
+    ensures { RedoneOver page.old page.new (in_range block.top block.end)
+        (λ j. overlaid (row page.old j) block.left block.right (replicate 80 word)) known result }
 {
     let mut bits = known;
-    for k in top..end {
-        bits = fill_row(page, k, left, right, word, bits);
+    for k in block.top..block.end {
+        bits = fill_row(page, k, block.left, block.right, word, bits);
     }
     bits
 }
 
 // They change by what they hold.
-pub fn change_rows(
-    page: &mut [u16],
-    top: u8,
-    end: u8,
-    left: u8,
-    right: u8,
-    change: CellChange,
-) -> u64
-    requires { BlockFits page.old top end left right }
-    ensures { Redone page.old page.new (in_range top end)
-        (λ j. changed_row change (row page.old j) left right) result }
+pub fn change_rows(page: &mut [u16], block: Block, change: CellChange) -> u64
+    requires { OnPage page.old block }
+    ensures { Redone page.old page.new (in_range block.top block.end)
+        (λ j. changed_row change (row page.old j) block.left block.right) result }
 {
     let mut bits = 0;
-    for k in top..end {
-        bits |= change_row(page, k, left, right, change);
+    for k in block.top..block.end {
+        bits |= change_row(page, k, block.left, block.right, change);
     }
     bits
 }

@@ -1,10 +1,11 @@
 -- Each arm calls the function of its edit, whose rows are those of the definition, for any page. What the edit's place asks, its numbers have.
-use mathlib.Core.Path.{◌≡◌, subst}
+use mathlib.Core.Path.{◌≡◌, refl, subst}
 use mathlib.Core.List.{List}
 use Prim.Native.Nat.{ℕ}
 use native.Mathlib.Omega.{arith}
 use Rattle.page.specs.declared.Edit.{Edit}
 use Rattle.page.specs.Writes.{Fits}
+use Rattle.page.proofs.Blocks.{block-edited}
 use Rattle.page.proofs.KnownRows.{keep-over, over-applied, edited-over}
 use Rattle.page.proofs.edits.change.Goals as goal
 
@@ -22,10 +23,10 @@ pub delete_cells-requires : goal.delete_cells-requires
 delete_cells-requires c = let F = fits c.requires c.in-DeleteCells.is in omega arith
 
 pub scroll_up-requires : goal.scroll_up-requires
-scroll_up-requires c = let F = fits c.requires c.in-ScrollUp.is in omega arith
+scroll_up-requires c = let F = fits c.requires c.in-ScrollUp.is in rw c.new.ensures (omega arith)
 
 pub scroll_down-requires : goal.scroll_down-requires
-scroll_down-requires c = let F = fits c.requires c.in-ScrollDown.is in omega arith
+scroll_down-requires c = let F = fits c.requires c.in-ScrollDown.is in rw c.new-in-ScrollDown.ensures (omega arith)
 
 pub fill_range-requires : goal.fill_range-requires
 fill_range-requires c = let F = fits c.requires c.in-FillRange.is in omega arith
@@ -33,14 +34,14 @@ fill_range-requires c = let F = fits c.requires c.in-FillRange.is in omega arith
 pub change_range-requires : goal.change_range-requires
 change_range-requires c = let F = fits c.requires c.in-ChangeRange.is in omega arith
 
-pub fill_rectangle-requires : goal.fill_rectangle-requires
-fill_rectangle-requires c = let F = fits c.requires c.in-FillRectangle.is in omega arith
+pub fill_rows-requires : goal.fill_rows-requires
+fill_rows-requires c = let F = fits c.requires c.in-FillRectangle.is in rw c.new-in-FillRectangle.ensures (omega arith)
 
-pub change_rectangle-requires : goal.change_rectangle-requires
-change_rectangle-requires c = let F = fits c.requires c.in-ChangeRectangle.is in omega arith
+pub change_rows-requires : goal.change_rows-requires
+change_rows-requires c = let F = fits c.requires c.in-ChangeRectangle.is in rw c.new-in-ChangeRectangle.ensures (omega arith)
 
 pub copy_rectangle-requires : goal.copy_rectangle-requires
-copy_rectangle-requires c = let F = fits c.requires c.in-CopyRectangle.is in omega arith
+copy_rectangle-requires c = let F = fits c.requires c.in-CopyRectangle.is in rw c.new-in-CopyRectangle.ensures (omega arith)
 
 pub returns-in-Keep : goal.returns-in-Keep
 returns-in-Keep c = keep-over c.requires c.in-Keep.is
@@ -55,10 +56,10 @@ pub returns-in-DeleteCells : goal.returns-in-DeleteCells
 returns-in-DeleteCells c = search edited-over
 
 pub returns-in-ScrollUp : goal.returns-in-ScrollUp
-returns-in-ScrollUp c = search over-applied
+returns-in-ScrollUp c = over-applied c.requires c.in-ScrollUp.is (rw c.new.ensures at c.scroll_up.ensures)
 
 pub returns-in-ScrollDown : goal.returns-in-ScrollDown
-returns-in-ScrollDown c = search over-applied
+returns-in-ScrollDown c = over-applied c.requires c.in-ScrollDown.is (rw c.new-in-ScrollDown.ensures at c.scroll_down.ensures)
 
 pub returns-in-FillRange : goal.returns-in-FillRange
 returns-in-FillRange c = search over-applied
@@ -67,10 +68,12 @@ pub returns-in-ChangeRange : goal.returns-in-ChangeRange
 returns-in-ChangeRange c = search edited-over
 
 pub returns-in-FillRectangle : goal.returns-in-FillRectangle
-returns-in-FillRectangle c = search over-applied
+returns-in-FillRectangle c =
+    let O = rw c.new-in-FillRectangle.ensures at c.fill_rows.ensures in
+    over-applied c.requires c.in-FillRectangle.is (record { redone = block-edited O.redone _ (λ j l h. refl); marked = O.marked })
 
 pub returns-in-ChangeRectangle : goal.returns-in-ChangeRectangle
-returns-in-ChangeRectangle c = search edited-over
+returns-in-ChangeRectangle c = edited-over c.requires c.in-ChangeRectangle.is (block-edited (rw c.new-in-ChangeRectangle.ensures at c.change_rows.ensures) _ (λ j l h. refl))
 
 pub returns-in-CopyRectangle : goal.returns-in-CopyRectangle
-returns-in-CopyRectangle c = search edited-over
+returns-in-CopyRectangle c = edited-over c.requires c.in-CopyRectangle.is (rw c.new-in-CopyRectangle.ensures at c.copy_rectangle.ensures)

@@ -5,21 +5,21 @@ use Rattle.page.proofs.Blocks.{block-copied}
 use Rattle.page.proofs.KnownRows.{over_nothing}
 use Rattle.page.proofs.edits.copy_rectangle.Goals as goal
 
-pub returns-then-top-row : goal.returns-then-top-row
-returns-then-top-row c =
+pub returns-then-block-row : goal.returns-then-block-row
+returns-then-block-row c =
     let a = c.args in
-    block-copied a.left a.right a.row a.column (λ j. j) (λ j l h. omega arith) c.slide_rows.ensures
+    block-copied a.block.left a.block.right a.row a.column (λ j. j) (λ j l h. omega arith) c.slide_rows.ensures
 
-pub returns-then-top-row-2 : goal.returns-then-top-row-2
-returns-then-top-row-2 c =
+pub returns-then-block-row-2 : goal.returns-then-block-row-2
+returns-then-block-row-2 c =
     let a = c.args in
-    block-copied a.left a.right a.row a.column (λ j. j + (a.row - a.top)) (λ j l h. omega arith)
+    block-copied a.block.left a.block.right a.row a.column (λ j. j + (a.row - a.block.top)) (λ j l h. omega arith)
     (over_nothing c.raise_rows.ensures)
 
 pub returns : goal.returns
 returns c =
     let a = c.args in
-    block-copied a.left a.right a.row a.column (λ j. j - (a.top - a.row)) (λ j l h. omega arith)
+    block-copied a.block.left a.block.right a.row a.column (λ j. j - (a.block.top - a.row)) (λ j l h. omega arith)
     (over_nothing c.lower_rows.ensures)
 
 pub lower_rows-requires : goal.lower_rows-requires

@@ -11,11 +11,11 @@ use Rattle.page.proofs.edits.scroll_down.Goals as goal
 
 pub returns : goal.returns
 returns c =
-    let top : ℕ = c.args.top in
-    let end : ℕ = c.args.end in
+    let top : ℕ = c.args.block.top in
+    let end : ℕ = c.args.block.end in
     let n : ℕ = c.args.count in
     over-join c.lower_rows-moved.ensures c.fill_rows.ensures.marked
-    (scrolled c.args.left c.args.right (λ j. j - n) c.lower_rows-moved.ensures.redone
+    (scrolled c.args.block.left c.args.block.right (λ j. j - n) c.lower_rows-moved.ensures.redone
     c.fill_rows.ensures.redone top end (λ j. leb (top + n) j)
     (λ j a b. (omega arith, b, le-leb (top + n) j a))
     (λ j a b. (a, omega arith, lt-leb (top + n) j b, inl b))

@@ -10,11 +10,11 @@ use Rattle.page.proofs.edits.scroll_up.Goals as goal
 
 pub returns : goal.returns
 returns c =
-    let top : ℕ = c.args.top in
-    let end : ℕ = c.args.end in
+    let top : ℕ = c.args.block.top in
+    let end : ℕ = c.args.block.end in
     let n : ℕ = c.args.count in
     over-join c.raise_rows-moved.ensures c.fill_rows.ensures.marked
-    (scrolled c.args.left c.args.right (λ j. j + n) c.raise_rows-moved.ensures.redone
+    (scrolled c.args.block.left c.args.block.right (λ j. j + n) c.raise_rows-moved.ensures.redone
     c.fill_rows.ensures.redone top end (λ j. ltb (j + n) end)
     (λ j a b. (a, omega arith, lt-ltb (j + n) end (omega arith)))
     (λ j a b. (omega arith, b, le-ltb (j + n) end (omega arith), inr a))

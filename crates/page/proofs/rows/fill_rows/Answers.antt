@@ -15,9 +15,9 @@ loop-k-preserved c =
     let a = c.args in
     let w : ℕ = a.word in
     over-next c.loop-k.invariant
-    {f = λ j. paste (row c.loop-k.page j) a.left (replicate (a.right - a.left) w) (a.right - a.left)} (omega arith) c.fill_row-bits.ensures
-    (λ old. filled_row (row c.loop-k.page c.loop-k.k) a.left a.right w (omega arith)
-    ∙ ap (λ (x : List ℕ). overlaid x a.left a.right (replicate 80 w)) old)
+    {f = λ j. paste (row c.loop-k.page j) a.block.left (replicate (a.block.right - a.block.left) w) (a.block.right - a.block.left)} (omega arith) c.fill_row-bits.ensures
+    (λ old. filled_row (row c.loop-k.page c.loop-k.k) a.block.left a.block.right w (omega arith)
+    ∙ ap (λ (x : List ℕ). overlaid x a.block.left a.block.right (replicate 80 w)) old)
 
 pub loop-k-init : goal.loop-k-init
 loop-k-init c = search (over_none, arith)

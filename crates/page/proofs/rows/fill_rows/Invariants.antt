@@ -7,4 +7,4 @@ use Rattle.page.proofs.rows.fill_rows.Given as goal
 
 abbrev pub invariant-loop-k : goal.invariant-loop-k
 invariant-loop-k l =
-    UpwardOver l.top l.end l.initial.page (λ j. overlaid (row l.initial.page j) l.left l.right (replicate 80 l.word)) l.page l.known l.bits l.k
+    UpwardOver l.block.top l.block.end l.initial.page (λ j. overlaid (row l.initial.page j) l.block.left l.block.right (replicate 80 l.word)) l.page l.known l.bits l.k

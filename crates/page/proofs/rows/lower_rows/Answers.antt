@@ -21,9 +21,9 @@ loop-k-preserved c =
       omega arith,
       omega arith,
       over-join O c.lower_row-bits.ensures.marked
-          (block-down {f = λ j. overlaid_from (row c.loop-k.page j) a.left a.right (row c.loop-k.page up) a.column} R
+          (block-down {f = λ j. overlaid_from (row c.loop-k.page j) a.block.left a.block.right (row c.loop-k.page up) a.column} R
           c.lower_row-bits.ensures.redone
-          (ap₂ (λ (x y : List ℕ). overlaid_from x a.left a.right y a.column) (block-old R k (inl (omega arith)))
+          (ap₂ (λ (x y : List ℕ). overlaid_from x a.block.left a.block.right y a.column) (block-old R k (inl (omega arith)))
           (block-old R up (inl (omega arith)) ∙ ap (row a.page.now) from))
           (omega arith) c.loop-k.invariant.1),
     )
@@ -33,8 +33,8 @@ returns-else-count-gt0 c =
     let a = c.args in
     let p = a.page.now in
     let same : (j : ℕ) → j - a.count ≡ j = λ j. omega arith in
-    over-same (block_same p _ _ _ (λ j. ap₂ (λ (i x : ℕ). overlaid_from (row p j) a.left a.right (row p i) x) (same j) (c.requires.3 (omega arith))
-    ∙ paste-self (row p j) a.left (a.right - a.left)))
+    over-same (block_same p _ _ _ (λ j. ap₂ (λ (i x : ℕ). overlaid_from (row p j) a.block.left a.block.right (row p i) x) (same j) (c.requires.3 (omega arith))
+    ∙ paste-self (row p j) a.block.left (a.block.right - a.block.left)))
 
 pub loop-k-init : goal.loop-k-init
 loop-k-init c = search (block_none, over-same, arith)

@@ -7,5 +7,5 @@ use Rattle.page.specs.Writes.{RedoneOver}
 use Rattle.page.proofs.rows.lower_rows.Given as goal
 
 abbrev pub invariant-loop-k : goal.invariant-loop-k
-invariant-loop-k l = (l.top ≤ l.k) × (l.k ≤ l.end) × RedoneOver l.initial.page l.page (in_range l.k l.end)
-    (λ j. overlaid_from (row l.initial.page j) l.left l.right (row l.initial.page (j - l.count)) l.column) l.known l.bits
+invariant-loop-k l = (l.block.top ≤ l.k) × (l.k ≤ l.block.end) × RedoneOver l.initial.page l.page (in_range l.k l.block.end)
+    (λ j. overlaid_from (row l.initial.page j) l.block.left l.block.right (row l.initial.page (j - l.count)) l.column) l.known l.bits

@@ -14,9 +14,9 @@ loop-k-preserved c =
     let a = c.args in
     let k : ℕ = c.loop-k.k in
     over-next c.loop-k.invariant
-    {f = λ j. overlaid_from (row c.loop-k.page j) a.left a.right (row c.loop-k.page (k + a.count)) a.column} (omega arith)
+    {f = λ j. overlaid_from (row c.loop-k.page j) a.block.left a.block.right (row c.loop-k.page (k + a.count)) a.column} (omega arith)
     c.move_row-bits.ensures
-    (λ old. ap₂ (λ (x y : List ℕ). overlaid_from x a.left a.right y a.column) old
+    (λ old. ap₂ (λ (x y : List ℕ). overlaid_from x a.block.left a.block.right y a.column) old
     (block-old c.loop-k.invariant.2.redone (k + a.count) (inr (omega arith))))
 
 pub loop-k-init : goal.loop-k-init

@@ -7,4 +7,4 @@ use Rattle.page.proofs.rows.raise_rows.Given as goal
 
 abbrev pub invariant-loop-k : goal.invariant-loop-k
 invariant-loop-k l =
-    UpwardOver l.top l.end l.initial.page (λ j. overlaid_from (row l.initial.page j) l.left l.right (row l.initial.page (j + l.count)) l.column) l.page l.known l.bits l.k
+    UpwardOver l.block.top l.block.end l.initial.page (λ j. overlaid_from (row l.initial.page j) l.block.left l.block.right (row l.initial.page (j + l.count)) l.column) l.page l.known l.bits l.k

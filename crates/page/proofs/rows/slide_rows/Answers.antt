@@ -13,8 +13,8 @@ loop-k-preserved c =
     let a = c.args in
     let k : ℕ = c.loop-k.k in
     over-next c.loop-k.invariant
-    {f = λ j. overlaid_from (row c.loop-k.page j) a.left a.right (row c.loop-k.page k) a.column} (omega arith) (over-or c.slide_row-bits.ensures c.loop-k.bits)
-    (ap (λ (x : List ℕ). overlaid_from x a.left a.right x a.column))
+    {f = λ j. overlaid_from (row c.loop-k.page j) a.block.left a.block.right (row c.loop-k.page k) a.column} (omega arith) (over-or c.slide_row-bits.ensures c.loop-k.bits)
+    (ap (λ (x : List ℕ). overlaid_from x a.block.left a.block.right x a.column))
 
 pub loop-k-init : goal.loop-k-init
 loop-k-init c = search (over_none, arith)
