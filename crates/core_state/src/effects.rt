@@ -29,39 +29,13 @@ pub fn unedited(core: Core) -> Decision
     }
 }
 
-pub fn with_shift(core: Core, shift: SingleShift) -> Core
-    ensures { result ≡ effects.with_shift core shift }
-{
-    let cursor = core.cursor;
-    let margins = core.margins;
-    let tabs = core.tabs;
-    let modes = core.modes;
-    let rendition = core.rendition;
-    let sets = core.sets;
-    let saved = core.saved;
-    let parser = core.parser;
-    Core {
-        rows: core.rows,
-        cursor,
-        margins,
-        tabs,
-        modes,
-        rendition,
-        protected: core.protected,
-        sets,
-        shift,
-        saved,
-        parser,
-    }
-}
-
 // No shift pending: most often nothing is written.
-pub fn without_shift(core: Core) -> Core
+pub fn without_shift(mut core: Core) -> Core
     ensures { result ≡ effects.with_shift core NoShift }
 {
-    let shift = core.shift;
-    match shift {
-        SingleShift::NoShift => core,
-        _ => with_shift(core, SingleShift::NoShift),
+    match core.shift {
+        SingleShift::NoShift => {}
+        _ => core.shift = SingleShift::NoShift,
     }
+    core
 }

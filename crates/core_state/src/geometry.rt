@@ -4,7 +4,6 @@ ghost use Rattle.core_state.specs.Geometry as geometry;
 
 use crate::Core;
 use device::cursor::Cursor;
-use ground::numbers::pick;
 
 // ---- columns: printing, moves, tabs, inserts and scrolls keep between these
 
@@ -42,7 +41,7 @@ pub fn top_stop(core: Core) -> u8
     ensures { result ≡ geometry.top_stop core }
 {
     let top = core.margins.top;
-    pick(top <= core.cursor.row, top, 1)
+    if top <= core.cursor.row { top } else { 1 }
 }
 
 // Where CUD stops.
@@ -50,21 +49,33 @@ pub fn bottom_stop(core: Core) -> u8
     ensures { result ≡ geometry.bottom_stop core }
 {
     let bottom = core.margins.bottom;
-    pick(core.cursor.row <= bottom, bottom, core.rows)
+    if core.cursor.row <= bottom {
+        bottom
+    } else {
+        core.rows
+    }
 }
 
 // The row that positions count as 1: T with origin on.
 pub fn first_row(core: Core) -> u8
     ensures { result ≡ geometry.first_row core }
 {
-    pick(core.modes.origin, core.margins.top, 1)
+    if core.modes.origin {
+        core.margins.top
+    } else {
+        1
+    }
 }
 
 // The last row of a position: B with origin on.
 pub fn last_row(core: Core) -> u8
     ensures { result ≡ geometry.last_row core }
 {
-    pick(core.modes.origin, core.margins.bottom, core.rows)
+    if core.modes.origin {
+        core.margins.bottom
+    } else {
+        core.rows
+    }
 }
 
 // ---- home
@@ -72,6 +83,5 @@ pub fn last_row(core: Core) -> u8
 pub fn home(core: Core) -> Cursor
     ensures { result ≡ geometry.home core }
 {
-    let cursor = core.cursor;
-    cursor.home(first_row(core), 1)
+    core.cursor.home(first_row(core), 1)
 }

@@ -12,11 +12,10 @@ use device::charsets::{Sets, SingleShift, has_96};
 pub fn cell_word(core: Core, code: u8, set: CharSet) -> u16
     ensures { result ≡ glyphs.cell_word core code set }
 {
-    let rendition = core.rendition;
     pack(Cell {
         code,
         set,
-        rendition,
+        rendition: core.rendition,
         protected: core.protected,
     })
 }
@@ -35,7 +34,7 @@ pub fn used_set(sets: Sets, shift: SingleShift, byte: u8) -> CharSet
 pub fn is_edge(byte: u8) -> bool
     ensures { result ≡ glyphs.is_edge byte }
 {
-    ((byte == 0x7F) | (byte == 0xA0)) | (byte == 0xFF)
+    matches!(byte, 0x7F | 0xA0 | 0xFF)
 }
 
 // In a 94-sign set they are ignored.
@@ -59,8 +58,6 @@ fn shown_set(set: CharSet, byte: u8) -> CharSet
 pub fn glyph(core: Core, byte: u8) -> u16
     ensures { result ≡ glyphs.glyph core byte }
 {
-    let sets = core.sets;
-    let shift = core.shift;
-    let set = used_set(sets, shift, byte);
+    let set = used_set(core.sets, core.shift, byte);
     cell_word(core, byte % 128, shown_set(set, byte))
 }

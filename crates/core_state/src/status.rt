@@ -1,6 +1,5 @@
 // The host-writable status line, as a page of one row that bytes act on.
 ghost use Rattle.std.specs.Prelude.{◌≡◌};
-ghost use Rattle.core_state.specs.Modes.{with_origin};
 ghost use Rattle.core_state.specs.StatusLine as status;
 
 use crate::fresh::fresh_saved;
@@ -24,27 +23,17 @@ fn in_line(column: u8, wrap: bool) -> Cursor
     }
 }
 
-fn with_origin(mut modes: Modes, on: bool) -> Modes
-    ensures { result ≡ with_origin modes on }
-{
-    modes.origin = on;
-    modes
-}
-
 // What is saved of the line, as a page of one row has it.
 fn line_saved(saved: LineSaved) -> Saved
     ensures { result ≡ status.line_saved saved }
 {
-    let rendition = saved.rendition;
-    let sets = saved.sets;
-    let shift = saved.shift;
     Saved {
         cursor: in_line(saved.column, saved.wrap),
-        rendition,
+        rendition: saved.rendition,
         origin: false,
-        sets,
+        sets: saved.sets,
         protected: saved.protected,
-        shift,
+        shift: saved.shift,
     }
 }
 
@@ -52,17 +41,13 @@ fn line_saved(saved: LineSaved) -> Saved
 fn saved_line(saved: Saved) -> LineSaved
     ensures { result ≡ status.saved_line saved }
 {
-    let cursor = saved.cursor;
-    let rendition = saved.rendition;
-    let sets = saved.sets;
-    let shift = saved.shift;
     LineSaved {
-        column: cursor.column,
-        wrap: cursor.wrap,
-        rendition,
-        sets,
+        column: saved.cursor.column,
+        wrap: saved.cursor.wrap,
+        rendition: saved.rendition,
+        sets: saved.sets,
         protected: saved.protected,
-        shift,
+        shift: saved.shift,
     }
 }
 
@@ -70,25 +55,16 @@ fn saved_line(saved: Saved) -> LineSaved
 pub fn line_view(core: Core, line: StatusLine) -> Core
     ensures { result ≡ status.line_view core line }
 {
-    let tabs = core.tabs;
-    let modes = core.modes;
-    let rendition = core.rendition;
-    let sets = core.sets;
-    let shift = core.shift;
-    let parser = core.parser;
-    let saved = line.saved;
     Core {
         rows: 1,
         cursor: in_line(line.column, line.wrap),
         margins: Margins { top: 1, bottom: 1 },
-        tabs,
-        modes: with_origin(modes, false),
-        rendition,
-        protected: core.protected,
-        sets,
-        shift,
-        saved: line_saved(saved),
-        parser,
+        modes: Modes {
+            origin: false,
+            ..core.modes
+        },
+        saved: line_saved(line.saved),
+        ..core
     }
 }
 
@@ -96,31 +72,19 @@ pub fn line_view(core: Core, line: StatusLine) -> Core
 pub fn page_behind(core: Core, view: Core) -> Core
     ensures { result ≡ status.page_behind core view }
 {
-    let cursor = core.cursor;
-    let margins = core.margins;
-    let saved = core.saved;
-    let tabs = view.tabs;
-    let modes = view.modes;
-    let rendition = view.rendition;
-    let sets = view.sets;
-    let shift = view.shift;
-    let parser = view.parser;
     Core {
         rows: core.rows,
         cursor: Cursor {
-            row: cursor.row,
-            column: cursor.column,
-            wrap: cursor.wrap & modes.autowrap,
+            wrap: core.cursor.wrap & view.modes.autowrap,
+            ..core.cursor
         },
-        margins,
-        tabs,
-        modes: with_origin(modes, core.modes.origin),
-        rendition,
-        protected: view.protected,
-        sets,
-        shift,
-        saved,
-        parser,
+        margins: core.margins,
+        modes: Modes {
+            origin: core.modes.origin,
+            ..view.modes
+        },
+        saved: core.saved,
+        ..view
     }
 }
 
@@ -128,14 +92,11 @@ pub fn page_behind(core: Core, view: Core) -> Core
 pub fn line_behind(line: StatusLine, view: Core) -> StatusLine
     ensures { result ≡ status.line_behind line view }
 {
-    let cursor = view.cursor;
-    let saved = view.saved;
     StatusLine {
-        present: line.present,
-        active: line.active,
-        column: cursor.column,
-        wrap: cursor.wrap,
-        saved: saved_line(saved),
+        column: view.cursor.column,
+        wrap: view.cursor.wrap,
+        saved: saved_line(view.saved),
+        ..line
     }
 }
 
@@ -143,7 +104,7 @@ pub fn line_behind(line: StatusLine, view: Core) -> StatusLine
 pub fn line_beside(mut line: StatusLine, autowrap: bool) -> StatusLine
     ensures { result ≡ status.line_beside line autowrap }
 {
-    line.wrap = line.wrap & autowrap;
+    line.wrap &= autowrap;
     line
 }
 

@@ -10,12 +10,7 @@ use parser::whole::is_whole_parser;
 pub fn is_sized(rows: u8) -> bool
     ensures { result ≡ whole.sized rows }
 {
-    match rows {
-        24 => true,
-        36 => true,
-        48 => true,
-        _ => false,
-    }
+    matches!(rows, 24 | 36 | 48)
 }
 
 fn is_whole_screen(core: Core) -> bool
@@ -39,8 +34,7 @@ fn is_whole_screen(core: Core) -> bool
 pub fn is_whole(core: Core) -> bool
     ensures { result ≡ whole.whole_core core }
 {
-    let parser = core.parser;
-    is_whole_screen(core) & is_whole_parser(parser)
+    is_whole_screen(core) & is_whole_parser(core.parser)
 }
 
 // Of the line, where autowrap is so.

@@ -89,19 +89,6 @@ pub fn has_96(set: CharSet) -> bool
     }
 }
 
-fn sets_of(g0: CharSet, g1: CharSet, g2: CharSet, g3: CharSet, gl: Register, gr: Register) -> Sets
-    ensures { result ≡ record { g0 = g0; g1 = g1; g2 = g2; g3 = g3; gl = gl; gr = gr } }
-{
-    Sets {
-        g0,
-        g1,
-        g2,
-        g3,
-        gl,
-        gr,
-    }
-}
-
 impl Sets {
     pub fn fresh() -> Self
         ensures { result ≡ fresh_sets }
@@ -128,54 +115,41 @@ impl Sets {
         }
     }
 
-    pub fn designate(self, register: Register, set: CharSet) -> Self
+    // SCS.
+    pub fn designate(mut self, register: Register, set: CharSet) -> Self
         ensures { result ≡ designated self register set }
     {
-        let g0 = self.g0;
-        let g1 = self.g1;
-        let g2 = self.g2;
-        let g3 = self.g3;
-        let gl = self.gl;
-        let gr = self.gr;
         match register {
-            Register::G0 => sets_of(set, g1, g2, g3, gl, gr),
-            Register::G1 => sets_of(g0, set, g2, g3, gl, gr),
-            Register::G2 => sets_of(g0, g1, set, g3, gl, gr),
-            Register::G3 => sets_of(g0, g1, g2, set, gl, gr),
+            Register::G0 => self.g0 = set,
+            Register::G1 => self.g1 = set,
+            Register::G2 => self.g2 = set,
+            Register::G3 => self.g3 = set,
         }
+        self
     }
 
     // SO, SI, LS2, LS3.
-    pub fn into_gl(self, register: Register) -> Self
+    pub fn into_gl(mut self, register: Register) -> Self
         ensures { result ≡ with_gl self register }
     {
-        let g0 = self.g0;
-        let g1 = self.g1;
-        let g2 = self.g2;
-        let g3 = self.g3;
-        let gr = self.gr;
-        sets_of(g0, g1, g2, g3, register, gr)
+        self.gl = register;
+        self
     }
 
     // LS1R, LS2R, LS3R.
-    pub fn into_gr(self, register: Register) -> Self
+    pub fn into_gr(mut self, register: Register) -> Self
         ensures { result ≡ with_gr self register }
     {
-        let g0 = self.g0;
-        let g1 = self.g1;
-        let g2 = self.g2;
-        let g3 = self.g3;
-        let gl = self.gl;
-        sets_of(g0, g1, g2, g3, gl, register)
+        self.gr = register;
+        self
     }
 
     // The set that 20 to 7F uses.
     pub fn left_set(self, shift: SingleShift) -> CharSet
         ensures { result ≡ left_set self shift }
     {
-        let gl = self.gl;
         match shift {
-            SingleShift::NoShift => self.set_in(gl),
+            SingleShift::NoShift => self.set_in(self.gl),
             SingleShift::Ss2 => self.g2,
             SingleShift::Ss3 => self.g3,
         }
@@ -185,7 +159,6 @@ impl Sets {
     pub fn right_set(self) -> CharSet
         ensures { result ≡ right_set self }
     {
-        let register = self.gr;
-        self.set_in(register)
+        self.set_in(self.gr)
     }
 }

@@ -25,54 +25,42 @@ impl Cursor {
         self
     }
 
-    pub fn up(mut self, n: u16, stop: u8) -> Self
+    pub fn up(self, n: u16, stop: u8) -> Self
         ensures { result ≡ moves.up self n stop }
     {
-        self.row = back(self.row, n, stop);
-        self.wrap = false;
-        self
+        self.home(back(self.row, n, stop), self.column)
     }
 
-    pub fn down(mut self, n: u16, stop: u8) -> Self
+    pub fn down(self, n: u16, stop: u8) -> Self
         ensures { result ≡ moves.down self n stop }
     {
-        self.row = on(self.row, n, stop);
-        self.wrap = false;
-        self
+        self.home(on(self.row, n, stop), self.column)
     }
 
-    pub fn left(mut self, n: u16, stop: u8) -> Self
+    pub fn left(self, n: u16, stop: u8) -> Self
         ensures { result ≡ moves.left self n stop }
     {
-        self.column = back(self.column, n, stop);
-        self.wrap = false;
-        self
+        self.home(self.row, back(self.column, n, stop))
     }
 
-    pub fn right(mut self, n: u16, stop: u8) -> Self
+    pub fn right(self, n: u16, stop: u8) -> Self
         ensures { result ≡ moves.right self n stop }
     {
-        self.column = on(self.column, n, stop);
-        self.wrap = false;
-        self
+        self.home(self.row, on(self.column, n, stop))
     }
 
-    pub fn to_column(mut self, column: u8) -> Self
+    pub fn to_column(self, column: u8) -> Self
         ensures { result ≡ moves.to_column self column }
     {
-        self.column = column;
-        self.wrap = false;
-        self
+        self.home(self.row, column)
     }
 
     // HT: the next tab, else the last column.
-    pub fn tab(mut self, tabs: Tabs, last: u8) -> Self
+    pub fn tab(self, tabs: Tabs, last: u8) -> Self
         requires { last ≤ 80 }
         ensures { result ≡ moves.tab self tabs last }
     {
-        self.column = tabs.next(self.column, last);
-        self.wrap = false;
-        self
+        self.home(self.row, tabs.next(self.column, last))
     }
 
     // IND without its scroll: at the bottom margin and in the last row it stays.
@@ -80,15 +68,10 @@ impl Cursor {
         requires { self.row ≤ rows }
         ensures { result ≡ moves.index self bottom rows }
     {
+        if (self.row != bottom) & (self.row != rows) {
+            self.row += 1;
+        }
         self.wrap = false;
-        let row = self.row;
-        if row == bottom {
-            return self;
-        }
-        if row == rows {
-            return self;
-        }
-        self.row = row + 1;
         self
     }
 
@@ -97,15 +80,10 @@ impl Cursor {
         requires { 1 ≤ self.row }
         ensures { result ≡ moves.reverse_index self top }
     {
+        if (self.row != top) & (self.row != 1) {
+            self.row -= 1;
+        }
         self.wrap = false;
-        let row = self.row;
-        if row == top {
-            return self;
-        }
-        if row == 1 {
-            return self;
-        }
-        self.row = row - 1;
         self
     }
 
@@ -113,9 +91,8 @@ impl Cursor {
     pub fn advance(mut self, last: u8, autowrap: bool) -> Self
         ensures { result ≡ moves.advance self last autowrap }
     {
-        let column = self.column;
-        if column < last {
-            self.column = column + 1;
+        if self.column < last {
+            self.column += 1;
             self.wrap = false;
         } else {
             self.wrap = autowrap;
@@ -128,7 +105,7 @@ impl Cursor {
         ensures { result ≡ moves.restore self top bottom autowrap }
     {
         self.row = held(self.row, top, bottom);
-        self.wrap = self.wrap & autowrap;
+        self.wrap &= autowrap;
         self
     }
 

@@ -6,7 +6,7 @@ ghost use Rattle.core_state.specs.Effects as effects;
 ghost use Rattle.vt.specs.Controls as controls;
 
 use crate::printing::index_edit;
-use core_state::effects::{one_edit, unedited, with_shift};
+use core_state::effects::{one_edit, unedited};
 use core_state::geometry::{Stops, left_stop, right_stop, stops_of};
 use core_state::{Core, Decision, Margins};
 use device::charsets::{Register, SingleShift};
@@ -20,10 +20,8 @@ fn index_from(mut core: Core, cursor: Cursor) -> Decision
     requires { (cursor.row ≤ core.rows) × (1 ≤ core.margins.top) }
     ensures { result ≡ controls.index_from core cursor }
 {
-    let margins = core.margins;
-    let stops = stops_of(core);
-    let edit = index_edit(margins, stops, cursor);
-    core.cursor = cursor.index(margins.bottom, core.rows);
+    let edit = index_edit(core.margins, stops_of(core), cursor);
+    core.cursor = cursor.index(core.margins.bottom, core.rows);
     one_edit(core, edit)
 }
 
@@ -32,8 +30,7 @@ pub fn index(core: Core) -> Decision
     requires { Bounds core }
     ensures { result ≡ controls.indexed core }
 {
-    let cursor = core.cursor;
-    index_from(core, cursor)
+    index_from(core, core.cursor)
 }
 
 // NEL: column 1 and IND.
@@ -41,8 +38,7 @@ pub fn next_line(core: Core) -> Decision
     requires { Bounds core }
     ensures { result ≡ controls.next_lined core }
 {
-    let cursor = core.cursor;
-    index_from(core, cursor.to_column(left_stop(core)))
+    index_from(core, core.cursor.to_column(left_stop(core)))
 }
 
 // LF, VT, FF: IND, and column 1 in newline mode.
@@ -78,11 +74,8 @@ pub fn reverse_index(mut core: Core) -> Decision
     requires { Bounds core }
     ensures { result ≡ controls.reverse_indexed core }
 {
-    let cursor = core.cursor;
-    let margins = core.margins;
-    let stops = stops_of(core);
-    let edit = reverse_index_edit(margins, stops, cursor);
-    core.cursor = cursor.reverse_index(margins.top);
+    let edit = reverse_index_edit(core.margins, stops_of(core), core.cursor);
+    core.cursor = core.cursor.reverse_index(core.margins.top);
     one_edit(core, edit)
 }
 
@@ -92,8 +85,7 @@ pub fn reverse_index(mut core: Core) -> Decision
 pub fn backspace(mut core: Core) -> Decision
     ensures { result ≡ controls.backspaced core }
 {
-    let cursor = core.cursor;
-    core.cursor = cursor.left(1, left_stop(core));
+    core.cursor = core.cursor.left(1, left_stop(core));
     unedited(core)
 }
 
@@ -101,9 +93,7 @@ pub fn backspace(mut core: Core) -> Decision
 pub fn horizontal_tab(mut core: Core) -> Decision
     ensures { result ≡ controls.tabbed core }
 {
-    let cursor = core.cursor;
-    let tabs = core.tabs;
-    core.cursor = cursor.tab(tabs, right_stop(core));
+    core.cursor = core.cursor.tab(core.tabs, right_stop(core));
     unedited(core)
 }
 
@@ -111,8 +101,7 @@ pub fn horizontal_tab(mut core: Core) -> Decision
 pub fn carriage_return(mut core: Core) -> Decision
     ensures { result ≡ controls.returned core }
 {
-    let cursor = core.cursor;
-    core.cursor = cursor.to_column(left_stop(core));
+    core.cursor = core.cursor.to_column(left_stop(core));
     unedited(core)
 }
 
@@ -121,8 +110,7 @@ fn set_tab(mut core: Core) -> Decision
     requires { Bounds core }
     ensures { result ≡ controls.tab_set core }
 {
-    let tabs = core.tabs;
-    core.tabs = tabs.set(core.cursor.column);
+    core.tabs = core.tabs.set(core.cursor.column);
     unedited(core)
 }
 
@@ -132,20 +120,21 @@ fn set_tab(mut core: Core) -> Decision
 pub fn into_gl(mut core: Core, register: Register) -> Decision
     ensures { result ≡ into_gl core register }
 {
-    let sets = core.sets;
-    core.sets = sets.into_gl(register);
+    core.sets = core.sets.into_gl(register);
     unedited(core)
 }
 
 // SS2, SS3.
-fn single_shift(core: Core, shift: SingleShift) -> Decision
+fn single_shift(mut core: Core, shift: SingleShift) -> Decision
     ensures { result ≡ effects.unedited (effects.with_shift core shift) }
 {
-    unedited(with_shift(core, shift))
+    core.shift = shift;
+    unedited(core)
 }
 
 // ---- the controls
 
+#[tactic(auto, unfolding(crate::specs::Controls::controlled))]
 pub fn control(core: Core, byte: u8) -> Decision
     requires { Bounds core }
     ensures { result ≡ controls.controlled core byte }
@@ -153,9 +142,7 @@ pub fn control(core: Core, byte: u8) -> Decision
     match byte {
         0x08 => backspace(core), // BS
         0x09 => horizontal_tab(core), // HT
-        0x0A => line_feed(core), // LF
-        0x0B => line_feed(core), // VT
-        0x0C => line_feed(core), // FF
+        0x0A..=0x0C => line_feed(core), // LF, VT, FF
         0x0D => carriage_return(core), // CR
         0x0E => into_gl(core, Register::G1), // SO
         0x0F => into_gl(core, Register::G0), // SI
@@ -163,6 +150,7 @@ pub fn control(core: Core, byte: u8) -> Decision
     }
 }
 
+#[tactic(auto, unfolding(crate::specs::Controls::c1_controlled))]
 pub fn c1_control(core: Core, byte: u8) -> Decision
     requires { Bounds core }
     ensures { result ≡ controls.c1_controlled core byte }

@@ -4,7 +4,7 @@ ghost use Rattle.vt.specs.Escapes as escapes;
 
 use crate::controls::into_gl;
 use cells::{BLANK, CharSet};
-use core_state::effects::{one_edit, unedited, with_shift};
+use core_state::effects::{one_edit, unedited};
 use core_state::fresh::{fresh_core, fresh_cursor};
 use core_state::geometry::{first_row, last_row};
 use core_state::{Core, Decision, Margins, Saved};
@@ -17,19 +17,14 @@ use page::Edit;
 fn save_cursor(mut core: Core) -> Decision
     ensures { result ≡ escapes.save_cursor core }
 {
-    let cursor = core.cursor;
-    let rendition = core.rendition;
-    let sets = core.sets;
-    let shift = core.shift;
-    let saved = Saved {
-        cursor,
-        rendition,
+    core.saved = Saved {
+        cursor: core.cursor,
+        rendition: core.rendition,
         origin: core.modes.origin,
-        sets,
+        sets: core.sets,
         protected: core.protected,
-        shift,
+        shift: core.shift,
     };
-    core.saved = saved;
     unedited(core)
 }
 
@@ -37,26 +32,22 @@ fn save_cursor(mut core: Core) -> Decision
 pub fn restore_from(mut core: Core, saved: Saved) -> Core
     ensures { result ≡ escapes.restored_from core saved }
 {
-    let cursor = saved.cursor;
-    let rendition = saved.rendition;
-    let sets = saved.sets;
-    let shift = saved.shift;
-    core.rendition = rendition;
+    core.rendition = saved.rendition;
     core.modes.origin = saved.origin;
-    core.sets = sets;
+    core.sets = saved.sets;
     core.protected = saved.protected;
-    let top = first_row(core);
-    let bottom = last_row(core);
-    core.cursor = cursor.restore(top, bottom, core.modes.autowrap);
-    with_shift(core, shift)
+    core.shift = saved.shift;
+    core.cursor = saved
+        .cursor
+        .restore(first_row(core), last_row(core), core.modes.autowrap);
+    core
 }
 
 // DECRC.
 fn restore_cursor(core: Core) -> Decision
     ensures { result ≡ escapes.restore_cursor core }
 {
-    let saved = core.saved;
-    unedited(restore_from(core, saved))
+    unedited(restore_from(core, core.saved))
 }
 
 // ---- ESC # 8 and ESC c
@@ -65,18 +56,16 @@ fn restore_cursor(core: Core) -> Decision
 fn align_screen(mut core: Core) -> Decision
     ensures { result ≡ escapes.align_screen core }
 {
-    let rows = core.rows;
-    let margins = Margins {
+    core.margins = Margins {
         top: 1,
-        bottom: rows,
+        bottom: core.rows,
     };
-    core.margins = margins;
     core.cursor = fresh_cursor();
     one_edit(
         core,
         Edit::FillRange {
             from: 0,
-            to: 80 * (rows as u16),
+            to: 80 * (core.rows as u16),
             word: 0x45,
         },
     )
@@ -86,12 +75,11 @@ fn align_screen(mut core: Core) -> Decision
 fn reset(core: Core) -> Decision
     ensures { result ≡ escapes.reset core }
 {
-    let rows = core.rows;
     one_edit(
-        fresh_core(rows),
+        fresh_core(core.rows),
         Edit::FillRange {
             from: 0,
-            to: 80 * (rows as u16),
+            to: 80 * (core.rows as u16),
             word: BLANK,
         },
     )
@@ -111,8 +99,7 @@ fn select_c1_transmission(mut core: Core, eightbit: bool) -> Decision
 fn into_gr(mut core: Core, register: Register) -> Decision
     ensures { result ≡ escapes.into_gr core register }
 {
-    let sets = core.sets;
-    core.sets = sets.into_gr(register);
+    core.sets = core.sets.into_gr(register);
     unedited(core)
 }
 
@@ -120,8 +107,7 @@ fn into_gr(mut core: Core, register: Register) -> Decision
 fn designate(mut core: Core, register: Register, set: CharSet) -> Decision
     ensures { result ≡ escapes.designate core register set }
 {
-    let sets = core.sets;
-    core.sets = sets.designate(register, set);
+    core.sets = core.sets.designate(register, set);
     unedited(core)
 }
 
@@ -193,6 +179,7 @@ fn hash_escape(core: Core, second: u8, last: u8) -> Decision
     unedited(core)
 }
 
+#[tactic(auto, unfolding(crate::specs::Escapes::escaped))]
 pub fn escape(core: Core, first: u8, second: u8, last: u8) -> Decision
     ensures { result ≡ escapes.escaped core first second last }
 {

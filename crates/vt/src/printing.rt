@@ -65,8 +65,7 @@ fn print_place(cursor: Cursor, margins: Margins, rows: u8, stops: Stops) -> Curs
     ensures { result ≡ printing.print_place cursor margins rows stops }
 {
     if cursor.wrap {
-        let start = cursor.to_column(stops.left);
-        return start.index(margins.bottom, rows);
+        return cursor.to_column(stops.left).index(margins.bottom, rows);
     }
     cursor
 }
@@ -105,11 +104,14 @@ fn print_word(core: Core, word: u16) -> Printed
     requires { Bounds core }
     ensures { result ≡ printing.print_word core word }
 {
-    let cursor = core.cursor;
-    let margins = core.margins;
-    let modes = core.modes;
-    let stops = stops_of(core);
-    print_at(cursor, margins, core.rows, modes, stops, word)
+    print_at(
+        core.cursor,
+        core.margins,
+        core.rows,
+        core.modes,
+        stops_of(core),
+        word,
+    )
 }
 
 // The cursor and the edits are put into the core. (A function that calls both would be too long for the
@@ -117,14 +119,11 @@ fn print_word(core: Core, word: u16) -> Printed
 fn printed_in(mut core: Core, printed: Printed) -> Decision
     ensures { result ≡ printing.printed_in core printed }
 {
-    let next = printed.cursor;
-    let first = printed.first;
-    let second = printed.second;
-    core.cursor = next;
+    core.cursor = printed.cursor;
     Decision {
         core,
-        first,
-        second,
+        first: printed.first,
+        second: printed.second,
     }
 }
 
@@ -134,9 +133,7 @@ pub fn print(core: Core, byte: u8) -> Decision
     requires { Bounds core }
     ensures { result ≡ printing.printed core byte }
 {
-    let sets = core.sets;
-    let shift = core.shift;
-    let set = used_set(sets, shift, byte);
+    let set = used_set(core.sets, core.shift, byte);
     let next = without_shift(core);
     if skipped(set, byte) {
         return unedited(core);

@@ -1,5 +1,4 @@
 -- Its parts are the definition's, by what the callees ensure and the two tests.
-use native.Mathlib.Omega.{arith}
 use borrow.Author.Tests.{eq-eqb, ne_eqb}
 use Rattle.core_state.proofs.PenLaws.{pen-made}
 use Rattle.core_state.proofs.pens.pen_of.Goals as goal
@@ -15,6 +14,3 @@ returns c =
       | then-space-left w ↦ rw (eq-eqb _ _ w.if-space-left.true) w.low-is
       | else-space-left w ↦ rw (ne_eqb _ _ w.if-space-left.false) w.low-is
     ])
-
-pub overflow_add-result : goal.overflow_add-result
-overflow_add-result c = elim c.if-has_96.branch [ then-has_96 w ↦ omega arith | else-has_96 w ↦ omega arith ]
