@@ -15,7 +15,7 @@ use crate::modes::{
 use crate::moves::{cursor_down, cursor_left, cursor_position, cursor_right, cursor_up};
 use core_state::effects::{one_edit, unedited};
 use core_state::{Core, Decision};
-use parser::families::{is_dollar, is_extent, is_plain, is_private, is_protection, is_soft_reset};
+use parser::families::Function;
 use parser::params::Params;
 use rectangles::functions::{rectangle_edit, select_extent};
 
@@ -61,26 +61,26 @@ fn private_sequence(core: Core, params: Params, last: u8) -> Decision
     }
 }
 
-pub fn sequence(core: Core, params: Params, mark: u8, first: u8, second: u8, last: u8) -> Decision
-    requires { Bounds core × (is_plain mark first second ≡ true → last ≡ 0x72 → sequences.margins_taken core params ≡ true) }
-    ensures { result ≡ sequences.sequenced core params mark first second last }
+pub fn sequence(core: Core, params: Params, function: Function) -> Decision
+    requires { Bounds core × (is_plain function.mark function.first function.second ≡ true → function.last ≡ 0x72 → sequences.margins_taken core params ≡ true) }
+    ensures { result ≡ sequences.sequenced core params function.mark function.first function.second function.last }
 {
-    if is_plain(mark, first, second) {
-        return plain_sequence(core, params, last);
+    if function.is_plain() {
+        return plain_sequence(core, params, function.last);
     }
-    if is_private(mark, first, second) {
-        return private_sequence(core, params, last);
+    if function.is_private() {
+        return private_sequence(core, params, function.last);
     }
-    if is_protection(mark, first, second, last) {
+    if function.is_protection() {
         return select_protection(core, params);
     }
-    if is_soft_reset(mark, first, second, last) {
+    if function.is_soft_reset() {
         return unedited(soft_reset(core));
     }
-    if is_dollar(mark, first, second) {
-        return one_edit(core, rectangle_edit(core, params, last));
+    if function.is_dollar() {
+        return one_edit(core, rectangle_edit(core, params, function.last));
     }
-    if is_extent(mark, first, second, last) {
+    if function.is_extent() {
         return select_extent(core, params);
     }
     unedited(core)

@@ -24,7 +24,7 @@ no-reply c Substitute h = refl
 no-reply c (Control b) h = refl
 no-reply c (C1Control b) h = absurd (miss silent_actions 4 tt h)
 no-reply c (EscapeSequence first second last) h = refl
-no-reply c (ControlSequence mark first second last) h = absurd (miss silent_actions 6 tt h)
+no-reply c (ControlSequence f) h = absurd (miss silent_actions 6 tt h)
 
 -- the actions that leave wrap due to printing
 abbrev pub unsettled_actions : List ℕ
@@ -38,7 +38,7 @@ keeps-wrap c Substitute h = refl
 keeps-wrap c (Control b) h = absurd (miss unsettled_actions 3 tt h)
 keeps-wrap c (C1Control b) h = absurd (miss unsettled_actions 4 tt h)
 keeps-wrap c (EscapeSequence first second last) h = absurd (miss unsettled_actions 5 tt h)
-keeps-wrap c (ControlSequence mark first second last) h = absurd (miss unsettled_actions 6 tt h)
+keeps-wrap c (ControlSequence f) h = absurd (miss unsettled_actions 6 tt h)
 
 -- the actions that are never ignored
 abbrev pub taken_actions : List ℕ
@@ -51,7 +51,7 @@ never-ignored c Substitute h = refl
 never-ignored c (Control b) h = refl
 never-ignored c (C1Control b) h = refl
 never-ignored c (EscapeSequence first second last) h = refl
-never-ignored c (ControlSequence mark first second last) h = absurd (miss taken_actions 6 tt h)
+never-ignored c (ControlSequence f) h = absurd (miss taken_actions 6 tt h)
 
 -- the actions that are no escape sequence
 abbrev pub unescaped_actions : List ℕ
@@ -64,7 +64,7 @@ no-reset Substitute h = refl
 no-reset (Control b) h = refl
 no-reset (C1Control b) h = refl
 no-reset (EscapeSequence first second last) h = absurd (miss unescaped_actions 5 tt h)
-no-reset (ControlSequence mark first second last) h = refl
+no-reset (ControlSequence f) h = refl
 
 -- the actions that are no sequence
 abbrev pub single_actions : List ℕ
@@ -78,7 +78,7 @@ on-singles P n ch s co c1 Substitute h = s
 on-singles P n ch s co c1 (Control b) h = co b
 on-singles P n ch s co c1 (C1Control b) h = c1 b
 on-singles P n ch s co c1 (EscapeSequence first second last) h = absurd (miss single_actions 5 tt h)
-on-singles P n ch s co c1 (ControlSequence mark first second last) h = absurd (miss single_actions 6 tt h)
+on-singles P n ch s co c1 (ControlSequence f) h = absurd (miss single_actions 6 tt h)
 
 pub stays : (a : Action) → OneOf single_actions (tag_of action.the_type a) → false ≡ leaves_line a
 stays = on-singles (λ (a : Action). false ≡ leaves_line a) refl (λ b. refl) refl (λ b. refl) (λ b. refl)

@@ -11,6 +11,7 @@ use Rattle.parser.specs.declared.phases.Op.TheVariants.{Ignore, Print, Sub, Exec
 use Rattle.parser.specs.declared.phases.Transition.{Transition}
 use Rattle.parser.specs.declared.parser.Parser.{Parser}
 use Rattle.parser.specs.declared.parser.Decoded.{Decoded}
+use Rattle.parser.specs.declared.families.Function.{Function}
 use Rattle.parser.specs.declared.parser.Action.{Action}
 use Rattle.parser.specs.declared.parser.Action.TheVariants.{Nothing, Character, Substitute, Control, C1Control, EscapeSequence, ControlSequence}
 use Rattle.parser.specs.Params.{param}
@@ -147,21 +148,21 @@ decid-action s b e = rw e
 
 -- a claim of every action, by its kind
 by-action : (P : Action → Type 0) → P Nothing → ((b : ℕ) → P (Character b)) → P Substitute → ((b : ℕ) → P (Control b)) → ((b : ℕ) → P (C1Control b))
-    → ((first second last : ℕ) → P (EscapeSequence first second last)) → ((mark first second last : ℕ) → P (ControlSequence mark first second last)) → (a : Action) → P a
+    → ((first second last : ℕ) → P (EscapeSequence first second last)) → ((f : Function) → P (ControlSequence f)) → (a : Action) → P a
 by-action P n ch su co c1 es cs Nothing = n
 by-action P n ch su co c1 es cs (Character b) = ch b
 by-action P n ch su co c1 es cs Substitute = su
 by-action P n ch su co c1 es cs (Control b) = co b
 by-action P n ch su co c1 es cs (C1Control b) = c1 b
 by-action P n ch su co c1 es cs (EscapeSequence first second last) = es first second last
-by-action P n ch su co c1 es cs (ControlSequence mark first second last) = cs mark first second last
+by-action P n ch su co c1 es cs (ControlSequence f) = cs f
 
-silent-sequence : (c : Core) (mark first second last : ℕ) → is_notable last ≡ false → reply c (ControlSequence mark first second last) ≡ Silent
-silent-sequence c mark first second last h =
-    let u = unnotable last h in
+silent-sequence : (c : Core) (f : Function) → is_notable f.last ≡ false → reply c (ControlSequence f) ≡ Silent
+silent-sequence c f h =
+    let u = unnotable f.last h in
     let P : Reply → Type 0 = λ (r : Reply). r ≡ Silent in
-    either P (is_plain mark first second) (λ _. rw (u.c, u.n))
-    (λ _. either P (is_private mark first second) (λ _. rw u.n) (λ _. rw (u.c, and-false)))
+    either P (is_plain f.mark f.first f.second) (λ _. rw (u.c, u.n))
+    (λ _. either P (is_private f.mark f.first f.second) (λ _. rw u.n) (λ _. rw (u.c, and-false)))
 
 quiet-reply : (c : Core) (a : Action) → is_eventful a ≡ false → reply c a ≡ Silent
 quiet-reply c =
@@ -178,19 +179,20 @@ pub quiet-tells : (a : Action) → is_eventful a ≡ false → tells_line a ≡ 
 quiet-tells =
     by-action (λ (a : Action). is_eventful a ≡ false → tells_line a ≡ false) (λ h. refl) (λ b h. refl) (λ h. refl) (λ b h. refl) (λ b h. refl)
     (λ first second last h. rw (unnotable last h).c (and-false (eqb first 0)))
-    (λ mark first second last h. let u = unnotable last h in rw (u.p, u.brace, u.tilde, and-false, and-false, and-false))
+    (λ f h. let u = unnotable f.last h in rw (u.p, u.brace, u.tilde, and-false, and-false, and-false))
 
 -- ---- what tells nothing
 
-untold-sequence : (mark first second last : ℕ) → tells_line (ControlSequence mark first second last) ≡ false → (n : ℕ) (l : StatusLine)
-    → line_told (ControlSequence mark first second last) n l ≡ l
-untold-sequence mark first second last h n l =
-    let soft = or_left (is_soft_reset mark first second last) _ h in
-    let chosen = or_right (is_soft_reset mark first second last) _ h in
-    rw soft
-    (either (λ (x : StatusLine). x ≡ l) (is_dollar mark first second)
-    (λ d. let neither : (eqb last 0x7D || eqb last 0x7E) ≡ false = rw d at chosen in
-    rw (or_right (eqb last 0x7D) (eqb last 0x7E) neither, or_left (eqb last 0x7D) (eqb last 0x7E) neither))
+untold-sequence : (f : Function) → tells_line (ControlSequence f) ≡ false → (n : ℕ) (l : StatusLine) → line_told (ControlSequence f) n l ≡ l
+untold-sequence f h n l =
+    let soft = is_soft_reset f.mark f.first f.second f.last in
+    let line = eqb f.last 0x7D in
+    let type = eqb f.last 0x7E in
+    let chosen = or_right soft _ h in
+    rw (or_left soft _ h)
+    (either (λ (x : StatusLine). x ≡ l) (is_dollar f.mark f.first f.second)
+    (λ d. let neither : (line || type) ≡ false = rw d at chosen in
+    rw (or_right line type neither, or_left line type neither))
     (λ _. refl))
 
 pub untold : (a : Action) → tells_line a ≡ false → (n : ℕ) (l : StatusLine) → line_told a n l ≡ l
@@ -202,13 +204,13 @@ untold =
 pub untold-leaves : (a : Action) → tells_line a ≡ false → leaves_line a ≡ false
 untold-leaves =
     by-action (λ (a : Action). tells_line a ≡ false → leaves_line a ≡ false) (λ h. h) (λ b h. h) (λ h. h) (λ b h. h) (λ b h. h) (λ first second last h. h)
-    (λ mark first second last h. or_left (is_soft_reset mark first second last) _ h)
+    (λ f h. or_left (is_soft_reset f.mark f.first f.second f.last) _ h)
 
 -- a full reset is one of the two
 pub stays-edits : (a : Action) → leaves_line a ≡ false → line_edits a ≡ no_edits
 stays-edits =
     by-action (λ (a : Action). leaves_line a ≡ false → line_edits a ≡ no_edits) (λ h. refl) (λ b h. refl) (λ h. refl) (λ b h. refl) (λ b h. refl)
-    (λ first second last h. rw h) (λ mark first second last h. refl)
+    (λ first second last h. rw h) (λ f h. refl)
 
 -- the first parameter is the same before the byte that ends the sequence
 pub told-selector : (s : Parser) (b : ℕ) (l : StatusLine)

@@ -3,6 +3,7 @@ use Rattle.std.proofs.Common.{◌≡◌, ℕ, Bool, true, false, cond, not, ◌&
 use mathlib.Core.Bool.{false≢true, and-true, and-false}
 use borrow.Author.Tests.{not-false}
 use Rattle.parser.specs.declared.params.Params.{Params}
+use Rattle.parser.specs.declared.families.Function.{Function}
 use Rattle.parser.specs.declared.parser.Action.{Action}
 use Rattle.parser.specs.declared.parser.Action.TheVariants.{Nothing, Character, Substitute, Control, C1Control, EscapeSequence, ControlSequence}
 use Rattle.device.specs.declared.sending.Reply.TheVariants.{SecondaryAttributes, Silent}
@@ -112,7 +113,7 @@ unlisted-unedited c Substitute h = absurd (false≢true (sym h))
 unlisted-unedited c (Control b) h = control-unedited c b h
 unlisted-unedited c (C1Control b) h = c1-unedited c b h
 unlisted-unedited c (EscapeSequence first second last) h = escape-unedited c first second last h
-unlisted-unedited c (ControlSequence mark first second last) h = sequence-unedited c c.parser.params mark first second last h
+unlisted-unedited c (ControlSequence f) h = sequence-unedited c c.parser.params f.mark f.first f.second f.last h
 
 -- so what is not ignored does what it does, listed or not
 pub heard-effect : (c : Core) (a : Action) → is_ignored c a ≡ false → effect c a ≡ effect c (heard c a)
@@ -133,10 +134,10 @@ unfolding executed clears_wrap
 executed-unignored c a = either (λ (x : Action). executed c x ≡ executed c a) (is_ignored c a) (λ e. ignored-unedited c a e) (λ e. refl)
 
 -- r that is not ignored has margins that are taken
-pub heard-taken : (c : Core) (a : Action) (mark first second last : ℕ) → is_ignored c a ≡ false → a ≡ ControlSequence mark first second last
-    → is_plain mark first second ≡ true → last ≡ 0x72 → margins_taken c c.parser.params ≡ true
-heard-taken c a mark first second last h s p e =
-    let i : ignored_sequence c c.parser.params mark first second last ≡ false = rw s at h in
+pub heard-taken : (c : Core) (a : Action) (f : Function) → is_ignored c a ≡ false → a ≡ ControlSequence f
+    → is_plain f.mark f.first f.second ≡ true → f.last ≡ 0x72 → margins_taken c c.parser.params ≡ true
+heard-taken c a f h s p e =
+    let i : ignored_sequence c c.parser.params f.mark f.first f.second f.last ≡ false = rw s at h in
     not-false (margins_taken c c.parser.params) (rw (p, e) at i)
 
 -- ---- what is not heard draws no reply
@@ -166,19 +167,19 @@ unheard-silent c (C1Control b) h = at-number P b 0x9A (λ h. absurd (false≢tru
     P : ℕ → Type 0
     P x = is_heard c (C1Control x) ≡ false → reply c (C1Control x) ≡ Silent
 unheard-silent c (EscapeSequence first second last) h = refl
-unheard-silent c (ControlSequence mark first second last) h =
-    go (is_plain mark first second) (is_private mark first second)
-    (is_secondary mark first second last) (listed_rest mark first second last) h
+unheard-silent c (ControlSequence f) h =
+    go (is_plain f.mark f.first f.second) (is_private f.mark f.first f.second)
+    (is_secondary f.mark f.first f.second f.last) (listed_rest f.mark f.first f.second f.last) h
   where
     q : Params
     q = c.parser.params
 
     go : (i j s t : Bool)
-        → (cond i (member last plain_finals) (cond j (member last private_finals) (s || t))
-        && not (cond i (plain_ignored c q last) (j && private_ignored q last))) ≡ false
-        → cond i (plain_reply c q last) (cond j (private_reply c q last) (cond (s && eqb (param q 0) 0) SecondaryAttributes Silent)) ≡ Silent
-    go true j s t h = plain-silent c q last h
-    go false true s t h = private-silent c q last h
+        → (cond i (member f.last plain_finals) (cond j (member f.last private_finals) (s || t))
+        && not (cond i (plain_ignored c q f.last) (j && private_ignored q f.last))) ≡ false
+        → cond i (plain_reply c q f.last) (cond j (private_reply c q f.last) (cond (s && eqb (param q 0) 0) SecondaryAttributes Silent)) ≡ Silent
+    go true j s t h = plain-silent c q f.last h
+    go false true s t h = private-silent c q f.last h
     go false false true t h = absurd (false≢true (sym h))
     go false false false t h = refl
 

@@ -12,10 +12,10 @@ use Rattle.parser.specs.declared.phases.Op.TheVariants.{Execute, C1}
 use Rattle.parser.specs.declared.parser.Parser.{Parser}
 use Rattle.parser.specs.declared.parser.Decoded.{Decoded}
 use Rattle.parser.specs.declared.parser.Action.{Action}
-use Rattle.parser.specs.declared.parser.Action.TheVariants.{Control, C1Control, ControlSequence}
+use Rattle.parser.specs.declared.parser.Action.TheVariants.{Control, C1Control}
 use Rattle.parser.specs.Params.{param, param_list, numbers, member}
 use Rattle.parser.specs.Phases.{takes_parameters}
-use Rattle.parser.specs.Parser.{to, transition, in_phase, sequence_action, decode}
+use Rattle.parser.specs.Parser.{to, transition, in_phase, control_sequence, sequence_action, decode}
 use Rattle.parser.proofs.SequenceLaws as sequence
 use Rattle.core_state.specs.declared.Core.{Core}
 use Rattle.core_state.specs.Effects.{with_cursor, with_rendition, with_parser, one_edit, unedited}
@@ -69,35 +69,35 @@ touch-quiet = by-final (λ (b : ℕ). is_notable b ≡ false) refl refl refl ref
 
 -- the end of a sequence with no mark
 pub final-decode : (s : Parser) (b : ℕ) → takes_parameters s.phase ≡ true → s.mark ≡ 0 → 0x40 ≤ b → b ≤ 0x7E
-    → decode s b ≡ record { parser = in_phase Ground s; action = ControlSequence 0 0 0 b }
+    → decode s b ≡ record { parser = in_phase Ground s; action = control_sequence 0 0 0 b }
 final-decode s b t m l u =
     sequence.final-decode s b (rw t (in_between 0x40 b 0x7E l u))
     ∙ ap (λ (x : ℕ). record { parser = in_phase Ground s; action = sequence_action x 0 0 b }) m
 
 -- what is ignored leaves all
 pub ignored-touch : (c : Core) (s : Parser) (last : ℕ) → is_touch last ≡ true → touch_ignored c (param s.params 0) last ≡ true
-    → unedited (with_parser c s) ≡ executed (with_parser c s) (ControlSequence 0 0 0 last)
+    → unedited (with_parser c s) ≡ executed (with_parser c s) (control_sequence 0 0 0 last)
 ignored-touch c s last h e =
-    ignored-unedited (with_parser c s) (ControlSequence 0 0 0 last)
-    (by-final (λ (x : ℕ). touch_ignored c (param s.params 0) x ≡ true → is_ignored (with_parser c s) (ControlSequence 0 0 0 x) ≡ true)
+    ignored-unedited (with_parser c s) (control_sequence 0 0 0 last)
+    (by-final (λ (x : ℕ). touch_ignored c (param s.params 0) x ≡ true → is_ignored (with_parser c s) (control_sequence 0 0 0 x) ≡ true)
     (λ i. i) (λ i. i) (λ i. i) (λ i. i) (λ i. i) (λ i. i) (λ i. i) (λ i. i) (λ i. i) (λ i. i) (λ i. i) (λ i. i) (λ i. i) last h e)
 
 -- and the others move the cursor and make an edit
 pub heard-touch : (c : Core) (s : Parser) (last : ℕ) → is_touch last ≡ true → touch_ignored c (param s.params 0) last ≡ false
     → (let t = narrowed (touch_decided c (param s.params 0) (param s.params 1) last) in
-    one_edit (with_cursor (with_parser c s) t.cursor) t.edit ≡ executed (with_parser c s) (ControlSequence 0 0 0 last))
+    one_edit (with_cursor (with_parser c s) t.cursor) t.edit ≡ executed (with_parser c s) (control_sequence 0 0 0 last))
 unfolding executed clears_wrap sequenced
 heard-touch c s =
     by-final
     (λ (x : ℕ). touch_ignored c (param s.params 0) x ≡ false
     → (let t = narrowed (touch_decided c (param s.params 0) (param s.params 1) x) in
-    one_edit (with_cursor (with_parser c s) t.cursor) t.edit ≡ executed (with_parser c s) (ControlSequence 0 0 0 x)))
+    one_edit (with_cursor (with_parser c s) t.cursor) t.edit ≡ executed (with_parser c s) (control_sequence 0 0 0 x)))
     (λ e. rw e) (λ e. refl) (λ e. refl) (λ e. refl) (λ e. refl) (λ e. refl) (λ e. rw e)
     (λ e. rw e) (λ e. rw e) (λ e. rw e) (λ e. rw e) (λ e. refl) (λ e. refl)
 
 -- SGR: the rendition alone
 pub rendition-executes : (c : Core)
-    → executed c (ControlSequence 0 0 0 0x6D) ≡ unedited (with_rendition c (folded rendered c.rendition (numbers (param_list c.parser.params))))
+    → executed c (control_sequence 0 0 0 0x6D) ≡ unedited (with_rendition c (folded rendered c.rendition (numbers (param_list c.parser.params))))
 unfolding executed clears_wrap sequenced
 rendition-executes c = refl
 

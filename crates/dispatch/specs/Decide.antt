@@ -23,7 +23,7 @@ effect c Substitute = substituted c
 effect c (Control b) = controlled c b
 effect c (C1Control b) = c1_controlled c b
 effect c (EscapeSequence first second last) = escaped c first second last
-effect c (ControlSequence mark first second last) = sequenced c c.parser.params mark first second last
+effect c (ControlSequence f) = sequenced c c.parser.params f.mark f.first f.second f.last
 
 -- and with it, of what is heard
 unfoldable pub executed : Core → Action → Decision

@@ -52,7 +52,7 @@ resets_all Substitute = false
 resets_all (Control b) = false
 resets_all (C1Control b) = false
 resets_all (EscapeSequence first second last) = is_full_reset first last
-resets_all (ControlSequence mark first second last) = false
+resets_all (ControlSequence f) = false
 
 -- either
 abbrev pub leaves_line : Action → Bool
@@ -62,7 +62,7 @@ leaves_line Substitute = false
 leaves_line (Control b) = false
 leaves_line (C1Control b) = false
 leaves_line (EscapeSequence first second last) = is_full_reset first last
-leaves_line (ControlSequence mark first second last) = is_soft_reset mark first second last
+leaves_line (ControlSequence f) = is_soft_reset f.mark f.first f.second f.last
 
 abbrev pub escape_told : ℕ → ℕ → StatusLine → StatusLine
 escape_told first last l = cond (is_full_reset first last) fresh_line l
@@ -80,7 +80,7 @@ line_told Substitute n l = l
 line_told (Control b) n l = l
 line_told (C1Control b) n l = l
 line_told (EscapeSequence first second last) n l = escape_told first last l
-line_told (ControlSequence mark first second last) n l = sequence_told n mark first second last l
+line_told (ControlSequence f) n l = sequence_told n f.mark f.first f.second f.last l
 
 -- whether it does anything to it
 abbrev pub tells_line : Action → Bool
@@ -90,8 +90,8 @@ tells_line Substitute = false
 tells_line (Control b) = false
 tells_line (C1Control b) = false
 tells_line (EscapeSequence first second last) = is_full_reset first last
-tells_line (ControlSequence mark first second last) =
-    is_soft_reset mark first second last || (is_dollar mark first second && (last == 0x7D || last == 0x7E))
+tells_line (ControlSequence f) =
+    is_soft_reset f.mark f.first f.second f.last || (is_dollar f.mark f.first f.second && (f.last == 0x7D || f.last == 0x7E))
 
 -- ---- an action
 

@@ -24,7 +24,7 @@ is_eventful Substitute = false
 is_eventful (Control b) = false
 is_eventful (C1Control b) = b == 0x9A
 is_eventful (EscapeSequence first second last) = is_notable last
-is_eventful (ControlSequence mark first second last) = is_notable last
+is_eventful (ControlSequence f) = is_notable f.last
 
 -- what such a byte asks for, and nothing of any other
 abbrev pub heeded : Parser → ℕ → Action

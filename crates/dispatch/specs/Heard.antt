@@ -78,7 +78,7 @@ is_listed Substitute = true
 is_listed (Control b) = member b controls
 is_listed (C1Control b) = member b c1_controls
 is_listed (EscapeSequence first second last) = listed_escape first second last
-is_listed (ControlSequence mark first second last) = listed_sequence mark first second last
+is_listed (ControlSequence f) = listed_sequence f.mark f.first f.second f.last
 
 -- ---- what is ignored here and now
 
@@ -109,7 +109,7 @@ is_ignored c Substitute = false
 is_ignored c (Control b) = false
 is_ignored c (C1Control b) = false
 is_ignored c (EscapeSequence first second last) = false
-is_ignored c (ControlSequence mark first second last) = ignored_sequence c c.parser.params mark first second last
+is_ignored c (ControlSequence f) = ignored_sequence c c.parser.params f.mark f.first f.second f.last
 
 abbrev pub unless_ignored : Core → Action → Action
 unless_ignored c a = cond (is_ignored c a) Nothing a

@@ -43,7 +43,7 @@ reply c Substitute = Silent
 reply c (Control b) = Silent
 reply c (C1Control b) = cond (b == 0x9A) PrimaryAttributes Silent
 reply c (EscapeSequence first second last) = Silent
-reply c (ControlSequence mark first second last) = sequence_reply c c.parser.params mark first second last
+reply c (ControlSequence f) = sequence_reply c c.parser.params f.mark f.first f.second f.last
 
 unfoldable pub reply_to : Core → Action → Reply
 reply_to c a = reply c (heard c a)

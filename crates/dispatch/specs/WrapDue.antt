@@ -66,7 +66,7 @@ keeps_wrap c Substitute = true
 keeps_wrap c (Control b) = member b keeping_controls
 keeps_wrap c (C1Control b) = member b keeping_c1
 keeps_wrap c (EscapeSequence first second last) = escape_keeps first last
-keeps_wrap c (ControlSequence mark first second last) = sequence_keeps c c.parser.params mark first second last
+keeps_wrap c (ControlSequence f) = sequence_keeps c c.parser.params f.mark f.first f.second f.last
 
 unfoldable pub clears_wrap : Core → Action → Bool
 clears_wrap c a = not (keeps_wrap c (heard c a))

@@ -30,15 +30,7 @@ fn effect(core: Core, action: Action) -> Decision
             second,
             last,
         } => escape(core, first, second, last),
-        Action::ControlSequence {
-            mark,
-            first,
-            second,
-            last,
-        } => {
-            let params = core.parser.params;
-            sequence(core, params, mark, first, second, last)
-        }
+        Action::ControlSequence(function) => sequence(core, core.parser.params, function),
     }
 }
 

@@ -5,7 +5,7 @@ ghost use Rattle.dispatch.specs.Displays as displays;
 
 use core_state::StatusLine;
 use core_state::status::fresh_line;
-use parser::families::{is_dollar, is_soft_reset};
+use parser::families::Function;
 use parser::parser::Action;
 
 // DECSSDT: 0 no line, 1 and 2 a line.
@@ -55,21 +55,14 @@ fn renew_line(mut line: StatusLine) -> StatusLine
     line
 }
 
-fn tell_sequence(
-    line: StatusLine,
-    selector: u16,
-    mark: u8,
-    first: u8,
-    second: u8,
-    last: u8,
-) -> StatusLine
-    ensures { result ≡ displays.sequence_told selector mark first second last line }
+fn tell_sequence(line: StatusLine, selector: u16, function: Function) -> StatusLine
+    ensures { result ≡ displays.sequence_told selector function.mark function.first function.second function.last line }
 {
-    if is_soft_reset(mark, first, second, last) {
+    if function.is_soft_reset() {
         return renew_line(line);
     }
-    if is_dollar(mark, first, second) {
-        return select_status(line, last, selector);
+    if function.is_dollar() {
+        return select_status(line, function.last, selector);
     }
     line
 }
@@ -95,17 +88,8 @@ pub fn tell_line(line: StatusLine, action: Action, selector: u16) -> StatusLine
     ensures { result ≡ displays.line_told action selector line }
 {
     match action {
-        Action::EscapeSequence {
-            first,
-            second: _,
-            last,
-        } => tell_escape(line, first, last),
-        Action::ControlSequence {
-            mark,
-            first,
-            second,
-            last,
-        } => tell_sequence(line, selector, mark, first, second, last),
+        Action::EscapeSequence { first, last, .. } => tell_escape(line, first, last),
+        Action::ControlSequence(function) => tell_sequence(line, selector, function),
         _ => line,
     }
 }
@@ -115,11 +99,7 @@ pub fn resets_all(action: Action) -> bool
     ensures { result ≡ displays.resets_all action }
 {
     match action {
-        Action::EscapeSequence {
-            first,
-            second: _,
-            last,
-        } => is_full_reset(first, last),
+        Action::EscapeSequence { first, last, .. } => is_full_reset(first, last),
         _ => false,
     }
 }
@@ -129,26 +109,17 @@ pub fn leaves_line(action: Action) -> bool
     ensures { result ≡ displays.leaves_line action }
 {
     match action {
-        Action::EscapeSequence {
-            first,
-            second: _,
-            last,
-        } => is_full_reset(first, last),
-        Action::ControlSequence {
-            mark,
-            first,
-            second,
-            last,
-        } => is_soft_reset(mark, first, second, last),
+        Action::EscapeSequence { first, last, .. } => is_full_reset(first, last),
+        Action::ControlSequence(function) => function.is_soft_reset(),
         _ => false,
     }
 }
 
-fn tells_by_sequence(mark: u8, first: u8, second: u8, last: u8) -> bool
-    ensures { result ≡ displays.tells_line (ControlSequence mark first second last) }
+fn tells_by_sequence(function: Function) -> bool
+    ensures { result ≡ displays.tells_line (ControlSequence function) }
 {
-    is_soft_reset(mark, first, second, last)
-        | (is_dollar(mark, first, second) & ((last == 0x7D) | (last == 0x7E)))
+    function.is_soft_reset()
+        | (function.is_dollar() & ((function.last == 0x7D) | (function.last == 0x7E)))
 }
 
 // Whether the line is told anything.
@@ -156,17 +127,8 @@ pub fn tells_line(action: Action) -> bool
     ensures { result ≡ displays.tells_line action }
 {
     match action {
-        Action::EscapeSequence {
-            first,
-            second: _,
-            last,
-        } => is_full_reset(first, last),
-        Action::ControlSequence {
-            mark,
-            first,
-            second,
-            last,
-        } => tells_by_sequence(mark, first, second, last),
+        Action::EscapeSequence { first, last, .. } => is_full_reset(first, last),
+        Action::ControlSequence(function) => tells_by_sequence(function),
         _ => false,
     }
 }

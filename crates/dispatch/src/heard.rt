@@ -6,7 +6,7 @@ ghost use Rattle.dispatch.specs.Heard as hearing;
 use core_state::Core;
 use core_state::status::is_line;
 use csi::modes::margins_taken;
-use parser::families::{is_plain, is_private};
+use parser::families::Function;
 use parser::params::Params;
 use parser::parser::Action;
 
@@ -47,28 +47,20 @@ fn private_ignored(params: Params, last: u8) -> bool
     ((last == 0x4A) | (last == 0x4B)) & (2 < params.get(0))
 }
 
-fn ignored_sequence(core: Core, params: Params, mark: u8, first: u8, second: u8, last: u8) -> bool
-    ensures { result ≡ hearing.ignored_sequence core params mark first second last }
+fn ignored_sequence(core: Core, params: Params, function: Function) -> bool
+    ensures { result ≡ hearing.ignored_sequence core params function.mark function.first function.second function.last }
 {
-    if is_plain(mark, first, second) {
-        return plain_ignored(core, params, last);
+    if function.is_plain() {
+        return plain_ignored(core, params, function.last);
     }
-    is_private(mark, first, second) & private_ignored(params, last)
+    function.is_private() & private_ignored(params, function.last)
 }
 
 fn is_ignored(core: Core, action: Action) -> bool
     ensures { result ≡ hearing.is_ignored core action }
 {
     match action {
-        Action::ControlSequence {
-            mark,
-            first,
-            second,
-            last,
-        } => {
-            let params = core.parser.params;
-            ignored_sequence(core, params, mark, first, second, last)
-        }
+        Action::ControlSequence(function) => ignored_sequence(core, core.parser.params, function),
         _ => false,
     }
 }

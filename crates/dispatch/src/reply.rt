@@ -9,7 +9,7 @@ use core_state::Core;
 use core_state::geometry::first_row;
 use device::sending::Reply;
 use ground::numbers::back;
-use parser::families::{is_plain, is_private};
+use parser::families::Function;
 use parser::params::Params;
 use parser::parser::Action;
 
@@ -67,24 +67,25 @@ fn private_reply(core: Core, params: Params, last: u8) -> Reply
 }
 
 // Secondary DA: > c.
-fn is_secondary(mark: u8, first: u8, second: u8, last: u8) -> bool
-    ensures { result ≡ is_secondary mark first second last }
+fn is_secondary(function: Function) -> bool
+    ensures { result ≡ is_secondary function.mark function.first function.second function.last }
 {
-    ((mark == 0x3E) & ((first == 0) & (second == 0))) & (last == 0x63)
+    ((function.mark == 0x3E) & ((function.first == 0) & (function.second == 0)))
+        & (function.last == 0x63)
 }
 
-fn sequence_reply(core: Core, mark: u8, first: u8, second: u8, last: u8) -> Reply
+fn sequence_reply(core: Core, function: Function) -> Reply
     requires { Bounds core }
-    ensures { result ≡ sequence_reply core core.parser.params mark first second last }
+    ensures { result ≡ sequence_reply core core.parser.params function.mark function.first function.second function.last }
 {
     let params = core.parser.params;
-    if is_plain(mark, first, second) {
-        return plain_reply(core, params, last);
+    if function.is_plain() {
+        return plain_reply(core, params, function.last);
     }
-    if is_private(mark, first, second) {
-        return private_reply(core, params, last);
+    if function.is_private() {
+        return private_reply(core, params, function.last);
     }
-    if is_secondary(mark, first, second, last) & (params.get(0) == 0) {
+    if is_secondary(function) & (params.get(0) == 0) {
         return Reply::SecondaryAttributes;
     }
     Reply::Silent
@@ -107,12 +108,7 @@ pub fn reply_to(core: Core, action: Action) -> Reply
 {
     match action {
         Action::C1Control { byte } => control_reply(byte),
-        Action::ControlSequence {
-            mark,
-            first,
-            second,
-            last,
-        } => sequence_reply(core, mark, first, second, last),
+        Action::ControlSequence(function) => sequence_reply(core, function),
         _ => Reply::Silent,
     }
 }

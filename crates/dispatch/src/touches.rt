@@ -2,8 +2,8 @@
 // cursor apart from the core calls these, so each stands at one place.
 ghost use Rattle.std.specs.Prelude.{◌≡◌, true};
 ghost use Rattle.parser.specs.declared.parser.Parser.{Parser};
-ghost use Rattle.parser.specs.declared.parser.Action.TheVariants.{ControlSequence};
 ghost use Rattle.parser.specs.Params.{param};
+ghost use Rattle.parser.specs.Parser.{control_sequence};
 ghost use Rattle.core_state.specs.Bounds.{Bounds};
 ghost use Rattle.core_state.specs.Effects.{with_cursor, with_parser, one_edit};
 ghost use Rattle.dispatch.specs.Decide.{executed};
@@ -113,7 +113,7 @@ fn heard_touch(core: Core, first: u16, second: u16, last: u8) -> Touch
 pub fn sequence_touch(core: Core, first: u16, second: u16, last: u8) -> Touch
     requires { Bounds core × (touches.is_touch last ≡ true) }
     ensures { (s : Parser) → param s.params 0 ≡ first → param s.params 1 ≡ second
-        → one_edit (with_cursor (with_parser core s) result.cursor) result.edit ≡ executed (with_parser core s) (ControlSequence 0 0 0 last) }
+        → one_edit (with_cursor (with_parser core s) result.cursor) result.edit ≡ executed (with_parser core s) (control_sequence 0 0 0 last) }
 {
     if touch_ignored(core, first, last) {
         return untouched(core);

@@ -7,7 +7,7 @@ ghost use Rattle.dispatch.specs.WrapDue as wrap;
 use crate::touches::is_touch;
 use core_state::status::is_line;
 use core_state::{Core, Decision};
-use parser::families::{is_plain, is_private, is_soft_reset};
+use parser::families::Function;
 use parser::params::Params;
 use parser::parser::Action;
 
@@ -68,16 +68,17 @@ fn private_clears(core: Core, params: Params, last: u8) -> bool
     }
 }
 
-fn sequence_clears(core: Core, params: Params, mark: u8, first: u8, second: u8, last: u8) -> bool
-    ensures { result ≡ hearing.listed_sequence mark first second last && not (wrap.sequence_keeps core params mark first second last) }
+fn sequence_clears(core: Core, params: Params, function: Function) -> bool
+    ensures { result ≡ hearing.listed_sequence function.mark function.first function.second function.last
+        && not (wrap.sequence_keeps core params function.mark function.first function.second function.last) }
 {
-    if is_plain(mark, first, second) {
-        return plain_clears(last);
+    if function.is_plain() {
+        return plain_clears(function.last);
     }
-    if is_private(mark, first, second) {
-        return private_clears(core, params, last);
+    if function.is_private() {
+        return private_clears(core, params, function.last);
     }
-    is_soft_reset(mark, first, second, last)
+    function.is_soft_reset()
 }
 
 pub fn clears_wrap(core: Core, action: Action) -> bool
@@ -92,15 +93,7 @@ pub fn clears_wrap(core: Core, action: Action) -> bool
             second,
             last,
         } => escape_clears(first, second, last),
-        Action::ControlSequence {
-            mark,
-            first,
-            second,
-            last,
-        } => {
-            let params = core.parser.params;
-            sequence_clears(core, params, mark, first, second, last)
-        }
+        Action::ControlSequence(function) => sequence_clears(core, core.parser.params, function),
         _ => false,
     }
 }

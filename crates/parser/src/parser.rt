@@ -3,7 +3,7 @@ ghost use Rattle.std.specs.Prelude.{◌≡◌, false, ◌≤◌, ◌<◌};
 ghost use Rattle.parser.specs.Phases.{is_ground};
 ghost use Rattle.parser.specs.Parser as parsing;
 
-use crate::families::{is_joined, is_joined_rendition, joined_mark};
+use crate::families::{Function, is_joined, joined_mark};
 use crate::params::Params;
 use crate::phases::{Op, Phase, intermediates, takes_parameters};
 use crate::rules::{sequence_rule, transition};
@@ -24,27 +24,12 @@ pub struct Parser {
 #[derive(Clone, Copy)]
 pub enum Action {
     Nothing,
-    Character {
-        byte: u8,
-    },
+    Character { byte: u8 },
     Substitute,
-    Control {
-        byte: u8,
-    },
-    C1Control {
-        byte: u8,
-    },
-    EscapeSequence {
-        first: u8,
-        second: u8,
-        last: u8,
-    },
-    ControlSequence {
-        mark: u8,
-        first: u8,
-        second: u8,
-        last: u8,
-    },
+    Control { byte: u8 },
+    C1Control { byte: u8 },
+    EscapeSequence { first: u8, second: u8, last: u8 },
+    ControlSequence(Function),
 }
 
 #[derive(Clone, Copy)]
@@ -65,15 +50,11 @@ fn c1_byte(byte: u8) -> u8
 }
 
 // SGR is read as without subparameters.
-fn sequence_action(mark: u8, first: u8, second: u8, last: u8) -> Action
-    ensures { result ≡ parsing.sequence_action mark first second last }
+fn sequence_action(mut function: Function) -> Action
+    ensures { result ≡ parsing.sequence_action function.mark function.first function.second function.last }
 {
-    Action::ControlSequence {
-        mark: pick(is_joined_rendition(mark, first, second, last), 0, mark),
-        first,
-        second,
-        last,
-    }
+    function.mark = pick(function.is_joined_rendition(), 0, function.mark);
+    Action::ControlSequence(function)
 }
 
 impl Parser {
@@ -207,12 +188,12 @@ impl Parser {
                 second: self.second_of(),
                 last: byte % 128,
             },
-            Op::CsiDispatch => sequence_action(
-                self.mark,
-                self.first_of(),
-                self.second_of(),
-                byte % 128,
-            ),
+            Op::CsiDispatch => sequence_action(Function {
+                mark: self.mark,
+                first: self.first_of(),
+                second: self.second_of(),
+                last: byte % 128,
+            }),
             _ => Action::Nothing,
         }
     }
@@ -236,7 +217,12 @@ impl Parser {
         if takes_parameters(phase) & between(0x40, byte, 0x7E) {
             return Decoded {
                 parser: self.in_phase(Phase::Ground),
-                action: sequence_action(self.mark, 0, 0, byte),
+                action: sequence_action(Function {
+                    mark: self.mark,
+                    first: 0,
+                    second: 0,
+                    last: byte,
+                }),
             };
         }
         let step = transition(phase, byte);

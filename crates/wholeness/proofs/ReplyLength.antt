@@ -26,7 +26,7 @@ module _ (c : Core) (w : Whole c) where
   two_digits (Control b) = tt
   two_digits (C1Control b) = search (two-either, tt)
   two_digits (EscapeSequence first second last) = tt
-  two_digits (ControlSequence mark first second last) = search (two-either, position-small, tt) depth 10
+  two_digits (ControlSequence f) = search (two-either, position-small, tt) depth 10
 
   pub sends-short : (b : ℕ) → length (sends c b) ≤ 11
   unfolding sends reply_to

@@ -29,7 +29,7 @@ good-action c Substitute p h n = good-substituted c false p
 good-action c (Control b) p h n = good-controlled c _ p h b
 good-action c (C1Control b) p h n = good-c1 c _ p h b
 good-action c (EscapeSequence first second last) p h n = good-escaped c _ p h first second last
-good-action c (ControlSequence mark first second last) p h n = good-sequenced c p h c.parser.params mark first second last n
+good-action c (ControlSequence f) p h n = good-sequenced c p h c.parser.params f.mark f.first f.second f.last n
 
 -- what is not heard is nothing
 good-heard : (c : Core) (a : Action) → Parts c → WrapOf c → GoodAction c (heard c a)

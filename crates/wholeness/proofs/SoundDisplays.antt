@@ -109,10 +109,10 @@ module _ (l : StatusLine) (on : Bool) (m : WholeLine l on) where
   told-whole (Control b) n = m
   told-whole (C1Control b) n = m
   told-whole (EscapeSequence first second last) n = told-either (is_full_reset first last) (λ _. fresh-line on) (λ _. m)
-  told-whole (ControlSequence mark first second last) n =
-      told-either (is_soft_reset mark first second last) (λ _. renewed-whole)
-      (λ _. told-either (is_dollar mark first second)
-      (λ _. told-either (eqb last 0x7E) (λ _. type-whole n) (λ _. told-either (eqb last 0x7D) (λ _. display-whole n) (λ _. m)))
+  told-whole (ControlSequence f) n =
+      told-either (is_soft_reset f.mark f.first f.second f.last) (λ _. renewed-whole)
+      (λ _. told-either (is_dollar f.mark f.first f.second)
+      (λ _. told-either (eqb f.last 0x7E) (λ _. type-whole n) (λ _. told-either (eqb f.last 0x7D) (λ _. display-whole n) (λ _. m)))
       (λ _. m))
 
 -- beside an action on the page: its wrap due lasts while autowrap is on

@@ -78,7 +78,7 @@ Graphic Substitute = Unit {0}
 Graphic (Control b) = Unit {0}
 Graphic (C1Control b) = Unit {0}
 Graphic (EscapeSequence first second last) = Unit {0}
-Graphic (ControlSequence mark first second last) = Unit {0}
+Graphic (ControlSequence f) = Unit {0}
 
 module _ (s : Parser) (b : ℕ) (h : b < 256) where
   record Fine (t : Transition) : Type 0 where
@@ -212,7 +212,7 @@ effect-brings c Substitute g = substituted-brings c
 effect-brings c (Control b) g = control-brings c b
 effect-brings c (C1Control b) g = c1-brings c b
 effect-brings c (EscapeSequence first second last) g = escape-brings c first second last
-effect-brings c (ControlSequence mark first second last) g = sequence-brings c c.parser.params mark first second last
+effect-brings c (ControlSequence f) g = sequence-brings c c.parser.params f.mark f.first f.second f.last
 
 pub executed-brings : (c : Core) (a : Action) → Graphic a → Brings (executed c a)
 unfolding executed

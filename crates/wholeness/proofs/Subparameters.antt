@@ -2,10 +2,10 @@
 use Rattle.std.proofs.Common.{◌≡◌, ℕ, true, false, eqb, leb, List, [], ◌∷◌, arith, ne_eqb, eqb-true, leb-true}
 use mathlib.Core.Bool.{false≢true}
 use Rattle.parser.specs.declared.parser.Parser.{Parser}
-use Rattle.parser.specs.declared.parser.Action.TheVariants.{Nothing, ControlSequence}
+use Rattle.parser.specs.declared.parser.Action.TheVariants.{Nothing}
 use Rattle.parser.specs.Params.{joined, param_list, member, none_above}
 use Rattle.parser.specs.Families.{is_joined, is_joined_rendition}
-use Rattle.parser.specs.Parser.{sequence_action}
+use Rattle.parser.specs.Parser.{control_sequence, sequence_action}
 use Rattle.parser.specs.WholeParser.{WholeParser}
 use Rattle.core_state.specs.declared.Core.{Core}
 use Rattle.dispatch.specs.Heard.{heard}
@@ -26,7 +26,7 @@ joined-shows p w m =
     (λ e _. e) (λ _ small. absurd (above-numbers (param_list p.params) m small)) w.small
 
 -- with 80 more than a mark no function is listed
-pub joined-ignored : (c : Core) (mark first second last : ℕ) → is_joined mark ≡ true → heard c (ControlSequence mark first second last) ≡ Nothing
+pub joined-ignored : (c : Core) (mark first second last : ℕ) → is_joined mark ≡ true → heard c (control_sequence mark first second last) ≡ Nothing
 joined-ignored c mark first second last j =
     let high = leb-true 0x80 mark j in
     rw (ne_eqb mark 0 (omega arith), ne_eqb mark 0x3F (omega arith), ne_eqb mark 0x3E (omega arith))

@@ -5,7 +5,7 @@ use Rattle.dispatch.proofs.decide.effect.Goals as goal
 -- DECSTBM is heard where its margins are taken
 pub sequence-requires : goal.sequence-requires
 sequence-requires c =
-    (c.requires.0, heard-taken c.args.core c.args.action _ _ _ _ c.requires.1 c.in-ControlSequence.is)
+    (c.requires.0, heard-taken c.args.core c.args.action _ c.requires.1 c.in-ControlSequence.is)
 
 pub returns-in-Nothing : goal.returns-in-Nothing
 returns-in-Nothing c = search c.in-Nothing.is

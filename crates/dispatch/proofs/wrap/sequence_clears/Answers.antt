@@ -10,9 +10,9 @@ returns-then-is_private c =
 
 pub returns : goal.returns
 returns c =
-    let start = c.args in
+    let f = c.args.function in
     rw (← c.is_plain.ensures, c.if-is_plain.false, ← c.is_private.ensures, c.if-is_private.false)
-    (c.is_soft_reset.ensures ∙ others-clear start.mark start.first start.second start.last)
+    (c.is_soft_reset.ensures ∙ others-clear f.mark f.first f.second f.last)
 
 pub returns-then-is_plain : goal.returns-then-is_plain
 returns-then-is_plain c = rw (← c.is_plain.ensures, c.if-is_plain.true) c.plain_clears.ensures

@@ -1,8 +1,7 @@
 -- What the end of the sequence touches is what its action does, and its edit is applied.
 use Rattle.std.proofs.Common.{◌≡◌, sym, refl, arith}
 use Rattle.parser.specs.declared.phases.Phase.TheVariants.{Ground}
-use Rattle.parser.specs.declared.parser.Action.TheVariants.{ControlSequence}
-use Rattle.parser.specs.Parser.{in_phase, decode}
+use Rattle.parser.specs.Parser.{in_phase, control_sequence, decode}
 use Rattle.core_state.specs.Effects.{with_cursor, with_parser, one_edit}
 use Rattle.dispatch.specs.Decide.{executed}
 use Rattle.dispatch.proofs.TouchLaws.{touch-range, touch-quiet}
@@ -13,14 +12,14 @@ use Rattle.spans.proofs.parts.sequence_step.Goals.{After-sequence_touch-touch, S
 
 -- what is decoded
 read : (start : Start) → let s = start.args.core.parser in
-    decode s start.args.last ≡ record { parser = in_phase Ground s; action = ControlSequence 0 0 0 start.args.last }
+    decode s start.args.last ≡ record { parser = in_phase Ground s; action = control_sequence 0 0 0 start.args.last }
 read start =
     let r = touch-range start.args.last start.requires.2 in
     final-read start.args.core.parser start.args.last start.requires.1 r.0 r.1
 
 -- what is touched, with the parser as the sequence leaves it
 does : (c : After-sequence_touch-touch) → let at = with_parser c.args.core (in_phase Ground c.args.core.parser) in
-    one_edit (with_cursor at c.sequence_touch-touch.result.cursor) c.sequence_touch-touch.result.edit ≡ executed at (ControlSequence 0 0 0 c.args.last)
+    one_edit (with_cursor at c.sequence_touch-touch.result.cursor) c.sequence_touch-touch.result.edit ≡ executed at (control_sequence 0 0 0 c.args.last)
 does c =
     c.sequence_touch-touch.ensures (in_phase Ground c.args.core.parser) (sym c.get.ensures) (sym c.get-2.ensures)
 
