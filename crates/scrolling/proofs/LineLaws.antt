@@ -11,15 +11,16 @@ use native.Mathlib.Omega.{arith}
 use lib.Dec.{eqb}
 use lib.ListN.{length}
 use borrow.Author.Tests.{ne_eqb}
-use Rattle.ground.specs.Spans.{span}
 use Rattle.ground.proofs.ListLaws.{split-eq}
 use Rattle.ground.proofs.TestLaws.{either}
 use Rattle.cells.specs.declared.runs.Pen.{Pen}
 use Rattle.cells.specs.Runs.{pen_word}
 use Rattle.page.specs.declared.Edit.TheVariants.{Put, ScrollUp}
 use Rattle.page.specs.Edits.{applied}
-use Rattle.scrolling.specs.Lines.{Lines, Written, line_byte, lines_over, write_byte, written_over, feeds_of, TextFits, LinesWritten, LinesFit}
-use Rattle.scrolling.specs.declared.Ahead.{Ahead}
+use Rattle.scrolling.specs.declared.ahead.Ahead.{Ahead}
+use Rattle.scrolling.specs.declared.region.Region.{Region}
+use Rattle.scrolling.specs.Text.{feeds_of}
+use Rattle.scrolling.specs.Lines.{Lines, Written, line_byte, lines_over, write_byte, written_over, LinesWritten, LinesFit}
 use Rattle.scrolling.proofs.ScrollLaws.{up-length, up_none, up-twice, put-length, put-ahead}
 
 -- a page that is `a` scrolls ahead of the definition's
@@ -106,36 +107,31 @@ module _ (n t e : ℕ) (newline : Bool) (pen : Pen) (he : e ≤ n) where
         right = r;
       })
 
--- ---- what is asked of the text, and what is promised
+-- ---- what is promised
 
 begun-alike : {p q : List ℕ} {a b c d : ℕ} (e : ℕ) → p ≡ q → a ≡ b → c ≡ d
     → ◌≡◌ {A = Written} (record { page = p; row = e - 1 - a; column = c }) (record { page = q; row = e - 1 - b; column = d })
 begun-alike e x y z = λ i. record { page = x i; row = e - 1 - y i; column = z i }
 
-module _ {n : ℕ} {p : List ℕ} {t e c : ℕ} {pen : Pen} {input : List ℕ} {i : ℕ} {r : Ahead} (newline : Bool)
-    (F : LinesFit n p t e c pen input i r) {q : List ℕ} {d : ℕ}
-    (scrolled : q ≡ applied n (ScrollUp t e 0 80 (r.feeds + 1)) p) (begun : d ≡ cond newline 1 c) where
-  pub text-fits : TextFits n q (e - 1 - r.feeds) d pen input i r.to
-  text-fits = record {
-    long = ap length scrolled ∙ up-length n t e p F.long (omega arith) F.end (r.feeds + 1) (omega arith);
-    few = F.few;
-    rows = omega (arith, F.feeds);
+module _ {r : Region} {p : List ℕ} {c : ℕ} {pen : Pen} {a : Ahead} (newline : Bool) (F : LinesFit r p c pen a) {q : List ℕ} {d : ℕ}
+    (scrolled : q ≡ applied r.rows (ScrollUp r.top r.end 0 80 (a.feeds + 1)) p) (begun : d ≡ cond newline 1 c) where
+  pub lines-fit : LinesFit r q d pen a
+  lines-fit = record {
+    long = ap length scrolled ∙ up-length r.rows r.top r.end p F.long (omega (arith, r.some)) r.inside (a.feeds + 1) (omega (arith, F.room));
+    room = F.room;
     left = rw begun (either (λ x. 1 ≤ x) newline (λ _. omega arith) (λ _. F.left));
     right = rw begun (either (λ x. x ≤ 80) newline (λ _. omega arith) (λ _. F.right));
     fits = F.fits;
-    from = F.from;
-    inside = F.inside;
-    text = F.text;
   }
 
   pub text-written : {q' : List ℕ} {d' : ℕ}
-      → LinesWritten (written_over n newline pen (record { page = q; row = e - 1 - r.feeds; column = d }) (span input i r.to)) q' d'
+      → LinesWritten (written_over r.rows newline pen (record { page = q; row = r.end - 1 - a.feeds; column = d }) a.text.now) q' d'
       → record { page = q'; column = d' }
-      ≡ lines_over n t e newline pen (record { page = applied n (ScrollUp t e 0 80 1) p; column = cond newline 1 c }) (span input i r.to)
+      ≡ lines_over r.rows r.top r.end newline pen (record { page = applied r.rows (ScrollUp r.top r.end 0 80 1) p; column = cond newline 1 c }) a.text.now
   text-written {q'} {d'} W =
-      let bs : List ℕ = span input i r.to in
+      let bs : List ℕ = a.text.now in
       ap₂ (λ (x : List ℕ) (y : ℕ). record { page = x; column = y }) W.page W.column
-      ∙ ap (λ (w : Written). record { page = (written_over n newline pen w bs).page; column = (written_over n newline pen w bs).column })
-      (begun-alike e (scrolled ∙ ap (λ (k : ℕ). applied n (ScrollUp t e 0 80 (k + 1)) p) F.feeds) F.feeds begun)
-      ∙ sym (lines-scrolled n t e newline pen F.end p (cond newline 1 c) bs F.long (omega (arith, F.feeds))
+      ∙ ap (λ (w : Written). record { page = (written_over r.rows newline pen w bs).page; column = (written_over r.rows newline pen w bs).column })
+      (begun-alike r.end (scrolled ∙ ap (λ (k : ℕ). applied r.rows (ScrollUp r.top r.end 0 80 (k + 1)) p) a.counted) a.counted begun)
+      ∙ sym (lines-scrolled r.rows r.top r.end newline pen r.inside p (cond newline 1 c) bs F.long (omega (arith, F.room, a.counted))
       (either (λ x. 1 ≤ x) newline (λ _. omega arith) (λ _. F.left)) (either (λ x. x ≤ 80) newline (λ _. omega arith) (λ _. F.right)))

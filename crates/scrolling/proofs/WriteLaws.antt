@@ -4,27 +4,29 @@ use mathlib.Core.Path.{◌≡◌, refl, sym, ap, ap₂, ◌∙◌}
 use mathlib.Core.Bool.{Bool, true, cond, or-false}
 use mathlib.Core.List.{List, [], ◌∷◌, ◌++◌, map}
 use Prim.Native.Nat.{ℕ, zero, suc, ◌+◌, ◌-◌, ◌*◌, ◌≤◌, ◌<◌, min}
-use native.Mathlib.Nat.{add-sub_cancel_left}
+use native.Mathlib.Nat.{zero-add}
 use native.Mathlib.Omega.{arith}
 use lib.Dec.{eqb}
-use lib.ListN.{length, get_or, take, drop, set, length-set, length-drop, length-map}
-use lib.Seq.{paste, paste-zero, paste-suc, length-paste, take-suc, get_or-drop}
+use lib.ListN.{length, get_or, take, drop, set, length-set, length-map, length-take, length-drop, take-append-drop}
+use lib.Seq.{paste, paste-zero, paste-suc, length-paste, take-suc}
 use borrow.Author.Tests.{ne_eqb}
+use Rattle.std.proofs.lemmas.List.{nil_from_length, take_all}
 use Rattle.ground.specs.Tests.{between}
-use Rattle.ground.specs.Spans.{span}
 use Rattle.ground.proofs.ListLaws.{get_d_map}
-use Rattle.ground.proofs.SpanLaws.{span_none, span_more, span-append}
 use Rattle.ground.proofs.TestLaws.{either, or_cases, between-low}
 use Rattle.cells.specs.declared.runs.Pen.{Pen}
 use Rattle.cells.specs.declared.runs.Put.{Put as Run}
-use Rattle.cells.specs.Runs.{pen_word, is_character, PutCharacters}
+use Rattle.cells.specs.Runs.{pen_word, is_character, PenFits, PutCharacters}
 use Rattle.cells.proofs.Storing.{pasted-long}
 use Rattle.page.specs.declared.Edit.TheVariants.{Put}
 use Rattle.page.specs.Edits.{applied}
 use Rattle.page.proofs.EditLaws.{applied-is}
 use Rattle.page.proofs.OneRow.{put-edited}
-use Rattle.scrolling.specs.Lines.{Written, write_byte, written_over, feeds_of, all_text, TextFits, LinesWritten}
-use Rattle.scrolling.proofs.TextLaws.{folded-append, span-first, feeds-append, text-first, text-rest}
+use Rattle.scrolling.specs.declared.ahead.Ahead.{Ahead}
+use Rattle.scrolling.specs.declared.region.Region.{Region}
+use Rattle.scrolling.specs.Text.{feeds_of, all_text}
+use Rattle.scrolling.specs.Lines.{Written, write_byte, written_over, LinesFit, LinesWritten}
+use Rattle.scrolling.proofs.TextLaws.{folded-append, feeds-append, text-first, text-rest}
 
 -- ---- a run
 
@@ -81,124 +83,118 @@ module _ (n : ℕ) (newline : Bool) (pen : Pen) (p : List ℕ) (r c : ℕ) (hp :
 
 -- ---- the loop
 
--- the text up to place i is written, and what is left from there to `to` fits
-pub record Writing (n : ℕ) (newline : Bool) (pen : Pen) (start : Written) (input : List ℕ) (from to : ℕ) (p : List ℕ) (k c i : ℕ) : Type 0 where
-  pub fits : TextFits n p k c pen input i to
-  pub begun : from ≤ i
-  pub is : written_over n newline pen start (span input from i) ≡ record { page = p; row = k; column = c }
+-- the text that is left goes on from row k and column c as all of it did from the start, and fits
+pub record Writing (n : ℕ) (newline : Bool) (pen : Pen) (start : Written) (text : List ℕ) (p : List ℕ) (k c : ℕ) (rest : List ℕ) : Type 0 where
+  pub long : length p ≡ 80 * n
+  pub few : n ≤ 64
+  pub rows : k + feeds_of rest < n
+  pub left : 1 ≤ c
+  pub right : c ≤ 80
+  pub fits : PenFits pen
+  pub plain : all_text rest ≡ true
+  pub is : written_over n newline pen start text ≡ written_over n newline pen (record { page = p; row = k; column = c }) rest
 
-pub writing-none : {n : ℕ} {pen : Pen} {p input : List ℕ} {k c from to : ℕ} (newline : Bool) → TextFits n p k c pen input from to
-    → Writing n newline pen (record { page = p; row = k; column = c }) input from to p k c from
-unfolding written_over
-writing-none {n} {pen} {p} {input} {k} {c} {from} newline F =
-    record { fits = F; begun = omega arith; is = ap (written_over n newline pen (record { page = p; row = k; column = c })) (span_none input from) }
+pub writing-none : {r : Region} {p : List ℕ} {c : ℕ} {pen : Pen} {a : Ahead} (newline : Bool) → LinesFit r p c pen a
+    → let k = r.end - 1 - a.feeds in Writing r.rows newline pen (record { page = p; row = k; column = c }) a.text.now p k c a.text.now
+writing-none {r} {p} {c} {pen} {a} newline F =
+    record {
+      long = F.long;
+      few = r.few;
+      rows = omega (arith, F.room, r.inside, a.counted);
+      left = F.left;
+      right = F.right;
+      fits = F.fits;
+      plain = a.plain;
+      is = refl;
+    }
 
-module _ {n : ℕ} {newline : Bool} {pen : Pen} {start : Written} {input : List ℕ} {from to : ℕ} {p : List ℕ} {k c i : ℕ}
-    (W : Writing n newline pen start input from to p k c i) (more : i < to) where
-  first : span input i to ≡ get_or input i 0 ∷ span input (i + 1) to
-  first = span-first input i to more W.fits.inside
+module _ {n : ℕ} {newline : Bool} {pen : Pen} {start : Written} {text : List ℕ} {p : List ℕ} {k c b : ℕ} {rest after : List ℕ}
+    (W : Writing n newline pen start text p k c rest) (cut : rest ≡ b ∷ after) where
+  text-left : all_text after ≡ true
+  text-left = text-rest (b ∷ []) after (sym (ap all_text cut) ∙ W.plain)
 
-  text-left : all_text (span input (i + 1) to) ≡ true
-  text-left = text-rest (get_or input i 0 ∷ []) (span input (i + 1) to) (sym (ap all_text first) ∙ W.fits.text)
-
-  feeds-left : feeds_of (span input i to) ≡ cond (eqb (get_or input i 0) 0x0A) 1 0 + feeds_of (span input (i + 1) to)
+  feeds-left : feeds_of rest ≡ cond (eqb b 0x0A) 1 0 + feeds_of after
   unfolding feeds_of
-  feeds-left = ap feeds_of first
+  feeds-left = ap feeds_of cut
 
   -- a byte that is neither LF nor CR is a character
-  pub is-character : (get_or input i 0 ≡ 0x0A → ⊥) → (get_or input i 0 ≡ 0x0D → ⊥) → is_character (get_or input i 0) ≡ true
+  pub is-character : (b ≡ 0x0A → ⊥) → (b ≡ 0x0D → ⊥) → is_character b ≡ true
   is-character feed return =
-      let t = text-first (get_or input i 0) (span input (i + 1) to) (sym (ap all_text first) ∙ W.fits.text) in
-      let left : between 0x20 (get_or input i 0) 0x7E ≡ true = rw (ne_eqb (get_or input i 0) 0x0A feed, ne_eqb (get_or input i 0) 0x0D return, or-false) at t in
+      let t = text-first b after (sym (ap all_text cut) ∙ W.plain) in
+      let left : between 0x20 b 0x7E ≡ true = rw (ne_eqb b 0x0A feed, ne_eqb b 0x0D return, or-false) at t in
       rw left
 
-  one : written_over n newline pen start (span input from (i + 1)) ≡ write_byte n newline pen (record { page = p; row = k; column = c }) (get_or input i 0)
-  one =
-      ap (written_over n newline pen start) (span_more input from i W.begun (omega arith))
-      ∙ over-append n newline pen start (span input from i) (get_or input i 0 ∷ [])
-      ∙ over-one n newline pen (written_over n newline pen start (span input from i)) (get_or input i 0)
-      ∙ ap (λ (s : Written). write_byte n newline pen s (get_or input i 0)) W.is
+  one : written_over n newline pen start text ≡ written_over n newline pen (write_byte n newline pen (record { page = p; row = k; column = c }) b) after
+  unfolding written_over
+  one = W.is ∙ ap (written_over n newline pen (record { page = p; row = k; column = c })) cut
 
-  pub writing-return : get_or input i 0 ≡ 0x0D → Writing n newline pen start input from to p k 1 (i + 1)
+  pub writing-return : b ≡ 0x0D → Writing n newline pen start text p k 1 after
   unfolding write_byte
   writing-return e =
       let f = rw e at feeds-left in
-      let F = W.fits in
       record {
-        fits = record {
-          long = F.long;
-          few = F.few;
-          rows = omega arith;
-          left = omega arith;
-          right = omega arith;
-          fits = F.fits;
-          from = omega arith;
-          inside = F.inside;
-          text = text-left;
-        };
-        begun = omega arith;
-        is = one ∙ rw e;
+        long = W.long;
+        few = W.few;
+        rows = omega (arith, W.rows);
+        left = omega arith;
+        right = omega arith;
+        fits = W.fits;
+        plain = text-left;
+        is = rw e at one;
       }
 
-  pub writing-feed : get_or input i 0 ≡ 0x0A → Writing n newline pen start input from to p (k + 1) (cond newline 1 c) (i + 1)
+  pub writing-feed : b ≡ 0x0A → Writing n newline pen start text p (k + 1) (cond newline 1 c) after
   unfolding write_byte
   writing-feed e =
       let f = rw e at feeds-left in
-      let F = W.fits in
       record {
-        fits = record {
-          long = F.long;
-          few = F.few;
-          rows = omega arith;
-          left = either (λ x. 1 ≤ x) newline (λ _. omega arith) (λ _. F.left);
-          right = either (λ x. x ≤ 80) newline (λ _. omega arith) (λ _. F.right);
-          fits = F.fits;
-          from = omega arith;
-          inside = F.inside;
-          text = text-left;
-        };
-        begun = omega arith;
-        is = one ∙ rw e;
+        long = W.long;
+        few = W.few;
+        rows = omega (arith, W.rows);
+        left = either (λ x. 1 ≤ x) newline (λ _. omega arith) (λ _. W.left);
+        right = either (λ x. x ≤ 80) newline (λ _. omega arith) (λ _. W.right);
+        fits = W.fits;
+        plain = text-left;
+        is = rw e at one;
       }
 
-  -- a run of characters, as many as come in the row and in the text
-  pub writing-run : {q : List ℕ} {at most : ℕ} {r : Run} → at ≡ 80 * k + (c - 1) → most ≡ min (to - i) (81 - c) → PutCharacters p q at most input i pen r
-      → Writing n newline pen start input from to q k (min (c + r.count) 80) (i + r.count)
-  writing-run {q} {at} {most} {r} place room P =
-      let F = W.fits in
-      let m : ℕ = r.count in
-      let few : r.count ≤ most = P.most in
-      let many : r.count ≤ length (drop i input) = simp length-drop (omega arith) in
-      let parts = span-append input i (i + r.count) to (omega arith) (omega arith) in
-      let f = ap feeds_of parts ∙ feeds-append (span input i (i + r.count)) (span input (i + r.count) to) in
-      let run : span input i (i + r.count) ≡ take r.count (drop i input) = ap (λ (l : ℕ). take l (drop i input)) (add-sub_cancel_left i r.count) in
-      let paged : q ≡ paste p (80 * k + (c - 1)) (map (pen_word pen) (drop i input)) r.count =
-      P.pasted.page ∙ ap (λ (x : ℕ). paste p x (map (pen_word pen) (drop i input)) r.count) place in
-      record {
-        fits = record {
-          long = pasted-long P.pasted (omega arith) (simp length-map (omega arith)) ∙ F.long;
-          few = F.few;
-          rows = omega arith;
-          left = omega arith;
-          right = omega arith;
-          fits = F.fits;
-          from = omega arith;
-          inside = F.inside;
-          text = text-rest (span input i (i + r.count)) (span input (i + r.count) to) (sym (ap all_text parts) ∙ F.text);
-        };
-        begun = omega arith;
-        is = ap (written_over n newline pen start) (span-append input from i (i + r.count) W.begun (omega arith))
-            ∙ over-append n newline pen start (span input from i) (span input i (i + r.count))
-            ∙ ap₂ (written_over n newline pen) W.is run
-            ∙ run-written n newline pen p k c F.long F.few (omega arith) F.left F.right (drop i input) r.count many (omega arith)
-            (λ j l. rw (get_or-drop i input j 0) (P.characters j l))
-            ∙ ap (λ (x : List ℕ). record { page = x; row = k; column = min (c + r.count) 80 }) (sym paged);
-      }
+-- a run of characters, as many as come in the row and in the text
+pub writing-run : {n : ℕ} {newline : Bool} {pen : Pen} {start : Written} {text : List ℕ} {p : List ℕ} {k c : ℕ} {rest : List ℕ} {q : List ℕ} {at most : ℕ} {r : Run}
+    → Writing n newline pen start text p k c rest → at ≡ 80 * k + (c - 1) → most ≡ min (length rest) (81 - c) → PutCharacters p q at most rest 0 pen r
+    → Writing n newline pen start text q k (min (c + r.count) 80) (take (length rest - r.count) (drop r.count rest))
+writing-run {n} {newline} {pen} {start} {text} {p} {k} {c} {rest} {q} {at} {most} {r} W place room P =
+    let few : r.count ≤ most = P.most in
+    let many : r.count ≤ length rest = omega arith in
+    let parts : take r.count rest ++ drop r.count rest ≡ rest = take-append-drop r.count rest in
+    let f = sym (ap feeds_of parts) ∙ feeds-append (take r.count rest) (drop r.count rest) in
+    let paged : q ≡ paste p (80 * k + (c - 1)) (map (pen_word pen) rest) r.count =
+    P.pasted.page ∙ ap (λ (x : ℕ). paste p x (map (pen_word pen) rest) r.count) place in
+    let all : take (length rest - r.count) (drop r.count rest) ≡ drop r.count rest = take_all (length rest - r.count) (drop r.count rest) (omega (arith, length-drop r.count rest)) in
+    rw all (record {
+      long = pasted-long P.pasted (omega (arith, W.rows, W.left)) (simp length-map (omega arith)) ∙ W.long;
+      few = W.few;
+      rows = omega (arith, W.rows);
+      left = omega (arith, W.left);
+      right = omega arith;
+      fits = W.fits;
+      plain = text-rest (take r.count rest) (drop r.count rest) (ap all_text parts ∙ W.plain);
+      is = W.is
+          ∙ ap (written_over n newline pen (record { page = p; row = k; column = c })) (sym parts)
+          ∙ over-append n newline pen (record { page = p; row = k; column = c }) (take r.count rest) (drop r.count rest)
+          ∙ ap (λ (s : Written). written_over n newline pen s (drop r.count rest))
+          (run-written n newline pen p k c W.long W.few (omega (arith, W.rows)) W.left W.right rest r.count many (omega arith)
+          (λ j l. rw (← zero-add j) (P.characters j l))
+          ∙ ap (λ (x : List ℕ). record { page = x; row = k; column = min (c + r.count) 80 }) (sym paged));
+    })
+
+-- what is left after a run is shorter
+pub run-shorter : (k : ℕ) (rest : List ℕ) → 1 ≤ k → k ≤ length rest → length (take (length rest - k) (drop k rest)) < length rest
+run-shorter k rest some h = omega (arith, length-take (length rest - k) (drop k rest), length-drop k rest)
 
 -- after the last turn
-pub writing-all : {n : ℕ} {newline : Bool} {pen : Pen} {start : Written} {input : List ℕ} {from to : ℕ} {p : List ℕ} {k c i : ℕ}
-    → Writing n newline pen start input from to p k c i → to ≤ i → LinesWritten (written_over n newline pen start (span input from to)) p c
-writing-all {n} {newline} {pen} {start} {input} {from} {to} {p} {k} {c} {i} W h =
-    let all : to ≡ i = omega arith in
-    let is = ap (λ (j : ℕ). written_over n newline pen start (span input from j)) all ∙ W.is in
+pub writing-all : {n : ℕ} {newline : Bool} {pen : Pen} {start : Written} {text : List ℕ} {p : List ℕ} {k c : ℕ} {rest : List ℕ}
+    → Writing n newline pen start text p k c rest → length rest ≡ 0 → LinesWritten (written_over n newline pen start text) p c
+unfolding written_over
+writing-all {n} {newline} {pen} {start} {text} {p} {k} {c} {rest} W none =
+    let is = W.is ∙ ap (written_over n newline pen (record { page = p; row = k; column = c })) (nil_from_length rest none) in
     record { page = ap (λ (w : Written). w.page) (sym is); column = ap (λ (w : Written). w.column) (sym is) }

@@ -1,30 +1,13 @@
 -- Text in the last row of rows that scroll, byte by byte, and the same with the scrolls done before. Rows are counted from 0, columns from 1.
-use Rattle.std.specs.Prelude.{◌≡◌, Bool, true, cond, ◌&&◌, ◌||◌, List, [], ◌∷◌, ℕ, zero, suc, ◌+◌, ◌-◌, ◌*◌, ◌≤◌, ◌<◌, min, eqb, length}
-use Rattle.ground.specs.Tests.{between}
+use Rattle.std.specs.Prelude.{◌≡◌, Bool, true, cond, ◌&&◌, List, ℕ, zero, suc, ◌+◌, ◌-◌, ◌*◌, ◌≤◌, ◌<◌, min, eqb, length}
 use Rattle.ground.specs.Folds.{folded}
-use Rattle.ground.specs.Spans.{span}
 use Rattle.cells.specs.declared.runs.Pen.{Pen}
 use Rattle.cells.specs.Runs.{pen_word, PenFits}
 use Rattle.cells.specs.Sets.{has_bit}
 use Rattle.page.specs.declared.Edit.TheVariants.{Put, ScrollUp}
 use Rattle.page.specs.Edits.{applied}
-use Rattle.scrolling.specs.declared.Ahead.{Ahead}
-
--- ---- bytes of text
-
--- a character of GL, CR or LF
-abbrev pub is_text : ℕ → Bool
-is_text b = between 0x20 b 0x7E || (eqb b 0x0A || eqb b 0x0D)
-
--- every byte is text
-unfoldable pub all_text : List ℕ → Bool
-all_text [] = true
-all_text (b ∷ bs) = is_text b && all_text bs
-
--- how many are line feeds
-unfoldable pub feeds_of : List ℕ → ℕ
-feeds_of [] = 0
-feeds_of (b ∷ bs) = cond (eqb b 0x0A) 1 0 + feeds_of bs
+use Rattle.scrolling.specs.declared.ahead.Ahead.{Ahead}
+use Rattle.scrolling.specs.declared.region.Region.{Region}
 
 -- ---- one scroll for each line feed
 
@@ -70,41 +53,15 @@ all_known known top (suc count) = has_bit known (top + count) && all_known known
 
 -- ---- what the functions promise and ask
 
--- text from place i on, with so many line feeds and no more than `most`
-pub record LinesAhead (input : List ℕ) (i most : ℕ) (r : Ahead) : Type 0 where
-  pub from : i ≤ r.to
-  pub inside : r.to ≤ length input
-  pub few : r.feeds ≤ most
-  pub feeds : r.feeds ≡ feeds_of (span input i r.to)
-  pub text : all_text (span input i r.to) ≡ true
-
--- text from place i to j that goes into rows of a page of n rows, from row k and column c on
-pub record TextFits (n : ℕ) (p : List ℕ) (k c : ℕ) (pen : Pen) (input : List ℕ) (i j : ℕ) : Type 0 where
-  pub long : length p ≡ 80 * n
-  pub few : n ≤ 64
-  pub rows : k + feeds_of (span input i j) < n
-  pub left : 1 ≤ c
-  pub right : c ≤ 80
-  pub fits : PenFits pen
-  pub from : i ≤ j
-  pub inside : j ≤ length input
-  pub text : all_text (span input i j) ≡ true
-
 -- page and column are those after the text
 pub record LinesWritten (w : Written) (q : List ℕ) (c : ℕ) : Type 0 where
   pub page : q ≡ w.page
   pub column : c ≡ w.column
 
--- text from place i on that follows a line feed in column c of the last row of rows t to e
-pub record LinesFit (n : ℕ) (p : List ℕ) (t e c : ℕ) (pen : Pen) (input : List ℕ) (i : ℕ) (r : Ahead) : Type 0 where
-  pub long : length p ≡ 80 * n
-  pub few : n ≤ 64
-  pub rows : t + r.feeds < e
-  pub end : e ≤ n
+-- text that follows a line feed in column c of a region's last row
+pub record LinesFit (r : Region) (p : List ℕ) (c : ℕ) (pen : Pen) (a : Ahead) : Type 0 where
+  pub long : length p ≡ 80 * r.rows
+  pub room : r.top + a.feeds < r.end
   pub left : 1 ≤ c
   pub right : c ≤ 80
   pub fits : PenFits pen
-  pub from : i ≤ r.to
-  pub inside : r.to ≤ length input
-  pub feeds : r.feeds ≡ feeds_of (span input i r.to)
-  pub text : all_text (span input i r.to) ≡ true

@@ -1,7 +1,9 @@
 -- Lines of text, byte by byte: what is done on the display is what is done to the page and the column.
-use Rattle.std.proofs.Common.{◌≡◌, ℕ, zero, suc, ◌+◌, ◌-◌, ◌*◌, ◌^◌, ◌<◌, ◌≤◌, Bool, true, false, cond, not, ◌&&◌, ◌||◌, eqb, ltb, List, [], ◌∷◌, ◌++◌, length, get_or, sym, refl, ap, ◌∙◌, subst, ⊎_elim, add-zero, add-one, arith, ltb-true, ne_eqb, eqb-true}
+use Rattle.std.proofs.Common.{◌≡◌, ℕ, zero, suc, ◌+◌, ◌-◌, ◌*◌, ◌^◌, ◌<◌, ◌≤◌, Bool, true, false, cond, not, ◌&&◌, ◌||◌, eqb, ltb, List, [], ◌∷◌, ◌++◌, length, get_or, take, drop, sym, refl, ap, ◌∙◌, subst, ⊎_elim, add-zero, add-one, arith, ltb-true, ne_eqb, eqb-true}
 use mathlib.Core.Bool.{false≢true}
+use native.Mathlib.Nat.{add-sub_cancel_left}
 use lib.Bits.{bit_or}
+use lib.ListN.{length-take, length-drop}
 use borrow.Author.Tests.{not-true}
 use Rattle.ground.specs.Tests.{between}
 use Rattle.ground.specs.Folds.{folded}
@@ -14,7 +16,8 @@ use Rattle.cells.specs.Runs.{is_character, pen_word}
 use Rattle.cells.specs.Sets.{bits_of, changed}
 use Rattle.page.specs.declared.Edit.TheVariants.{Put, ScrollUp}
 use Rattle.page.specs.Edits.{applied}
-use Rattle.scrolling.specs.Lines.{is_text, all_text, Lines, line_byte, lines_over, all_known}
+use Rattle.scrolling.specs.Text.{is_text, all_text}
+use Rattle.scrolling.specs.Lines.{Lines, line_byte, lines_over, all_known}
 use Rattle.scrolling.proofs.KnownLaws.{known-scroll, known-put}
 use Rattle.parser.specs.declared.phases.Phase.TheVariants.{Ground}
 use Rattle.core_state.specs.declared.Core.{Core}
@@ -167,13 +170,13 @@ module _ (c : Core) (n : ℕ) (p input : List ℕ) (from : ℕ) (pen : Pen) (P :
       (subst (λ (x : Core). ByteDone x n p 0x0A (in_column c first.column) n first.page) (sym start)
       (feed-done c S c.cursor.column p Q n (known_up p P.size)))
 
-  pub lines-spanned : (to : ℕ) → from + 1 ≤ to → to ≤ length input → all_text (span input (from + 1) to) ≡ true → (q : List ℕ) (k : ℕ)
-      → record { page = q; column = k } ≡ lines_over c.rows t e c.modes.newline pen first (span input (from + 1) to)
-      → Spanned c n p input from to (in_column c k) n q
-  lines-spanned to a b text q k is =
-      let place : from + 1 + (to - (from + 1)) ≡ to = omega arith in
-      let all : Spanned c n p input from to _ n _ =
-      subst (λ (j : ℕ). Spanned c n p input from j (in_column c (lines_over c.rows t e c.modes.newline pen first (span input (from + 1) j)).column) n
-      (lines_over c.rows t e c.modes.newline pen first (span input (from + 1) j)).page) place
-      (text-spanned c S n pen words known_up put-known c n p input from (from + 1) first fed (to - (from + 1)) (omega arith) (rw place text)) in
-      subst (λ (x : Lines). Spanned c n p input from to (in_column c x.column) n x.page) (sym is) all
+  pub lines-spanned : (text : List ℕ) → text ≡ take (length text) (drop (from + 1) input) → all_text text ≡ true → (q : List ℕ) (k : ℕ)
+      → record { page = q; column = k } ≡ lines_over c.rows t e c.modes.newline pen first text
+      → Spanned c n p input from (from + 1 + length text) (in_column c k) n q
+  lines-spanned text is plain q k after =
+      let size : length text ≤ length input - (from + 1) =
+      omega (arith, ap length is, length-take (length text) (drop (from + 1) input), length-drop (from + 1) input) in
+      let there : span input (from + 1) (from + 1 + length text) ≡ text =
+      ap (λ (k : ℕ). take k (drop (from + 1) input)) (add-sub_cancel_left (from + 1) (length text)) ∙ sym is in
+      let all = text-spanned c S n pen words known_up put-known c n p input from (from + 1) first fed (length text) (omega arith) (rw there plain) in
+      subst (λ (x : Lines). Spanned c n p input from (from + 1 + length text) (in_column c x.column) n x.page) (sym after) (rw there at all)

@@ -20,7 +20,9 @@ use device::cursor::Cursor;
 use dispatch::touches::{control_touch, is_direct};
 use page::edits::apply;
 use parser::phases::is_ground;
-use scrolling::{all_known, lines_ahead, scroll_lines};
+use scrolling::ahead::lines_ahead;
+use scrolling::region::Region;
+use scrolling::{all_known, scroll_lines};
 
 const HT: u8 = 0x09;
 
@@ -121,23 +123,26 @@ fn feed_lines(
         × (from < result.next) }
 {
     let margins = core.margins;
-    let top = margins.top - 1;
-    let ahead = lines_ahead(input, from + 1, margins.bottom - margins.top - 1);
+    let region = Region {
+        rows: core.rows,
+        top: margins.top - 1,
+        end: margins.bottom,
+    };
+    let ahead = lines_ahead(&input[from + 1..], margins.bottom - margins.top - 1);
     let column = scroll_lines(
         page,
-        core.rows,
-        top,
-        margins.bottom,
+        region,
         core.cursor.column,
         core.modes.newline,
-        input,
-        from + 1,
         ahead,
         pen,
         changed,
     );
-    let cursor = core.cursor;
-    moved(cursor.to_column(column), changed, ahead.to)
+    Characters {
+        cursor: core.cursor.to_column(column),
+        changed,
+        next: from + 1 + ahead.text.len(),
+    }
 }
 
 pub fn act_directly(

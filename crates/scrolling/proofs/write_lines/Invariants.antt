@@ -1,11 +1,13 @@
--- The text up to place i is written. A line feed goes one row down, CR to column 1, and a run of characters fills cells of one row.
+-- What is left of the text is still to be written. A line feed goes one row down, CR to column 1, and a run of characters fills cells of one row.
 use Prim.Native.Nat.{◌-◌}
+use lib.ListN.{length}
 use Rattle.scrolling.proofs.WriteLaws.{Writing}
 use Rattle.scrolling.proofs.write_lines.Given as goal
 
-abbrev pub invariant-loop-i : goal.invariant-loop-i
-invariant-loop-i l =
-    Writing l.rows l.newline l.pen (record { page = l.initial.page; row = l.row-2; column = l.column-2 }) l.input l.from l.to l.page l.row l.column l.i
+abbrev pub invariant-loop-byte : goal.invariant-loop-byte
+invariant-loop-byte l =
+    Writing l.fn.region.rows l.newline l.pen (record { page = l.fn.page; row = l.fn.region.end - 1 - l.ahead.feeds; column = l.fn.column })
+    l.ahead.text.now l.page l.row l.column l.rest
 
-abbrev pub decreases-loop-i : goal.decreases-loop-i
-decreases-loop-i l = l.to - l.i
+abbrev pub decreases-loop-byte : goal.decreases-loop-byte
+decreases-loop-byte l = length l.rest

@@ -1,15 +1,23 @@
 -- A line feed and the text that follows it, done as one scroll and puts, are what is done byte by byte.
-use Rattle.std.proofs.Common.{arith}
+use Rattle.std.proofs.Common.{◌≡◌, ◌+◌, ◌-◌, ap, ◌∙◌, arith, length, take, drop, length-take, length-drop}
+use Rattle.std.proofs.lemmas.List.{take_all}
 use Rattle.core_state.proofs.PenLaws.{pen-fits, pen-glyph}
 use Rattle.spans.proofs.CharacterLaws.{unshifted-is}
 use Rattle.spans.proofs.LineLaws.{Scrolls}
 use Rattle.spans.proofs.TextLaws.{scrolls, lines-spanned}
 use Rattle.spans.proofs.direct.feed_lines.Goals as goal
-use Rattle.spans.proofs.direct.feed_lines.Goals.{Start}
+use Rattle.spans.proofs.direct.feed_lines.Goals.{Start, After-lines_ahead-ahead}
 
 -- text scrolls here
 there : (start : Start) → Scrolls start.args.core
 there start = scrolls start.args.core start.args.changed start.requires.1 start.requires.2
+
+-- the text that is taken follows the line feed
+follows : (c : After-lines_ahead-ahead) → let text = c.lines_ahead-ahead.result.text.now in text ≡ take (length text) (drop (c.args.from + 1) c.args.input.now)
+follows c =
+    let input = c.args.input.now in
+    c.lines_ahead-ahead.ensures.first ∙ ap (take (length c.lines_ahead-ahead.result.text.now))
+    (take_all (length input - (c.args.from + 1)) (drop (c.args.from + 1) input) (omega (arith, length-drop (c.args.from + 1) input)))
 
 pub overflow_sub-margins-2 : goal.overflow_sub-margins-2
 overflow_sub-margins-2 c = let s = there (goal.at.overflow_sub-margins-2 c).Start in omega arith
@@ -23,29 +31,35 @@ pub scroll_lines-column-requires : goal.scroll_lines-column-requires
 scroll_lines-column-requires c =
     let b = c.requires.0.whole.parts.bounds in
     let s = there (goal.at.scroll_lines-column-requires c).Start in
-    let L = c.lines_ahead-ahead.ensures in
+    let few = c.lines_ahead-ahead.ensures.few in
     record {
       long = c.requires.0.size;
-      few = omega (arith, b.count.high);
-      rows = omega (arith, L.few, s.margins, b.margins.low);
-      end = omega (arith, b.margins.high);
+      room = omega (arith, few, s.margins, b.margins.low);
       left = omega (arith, b.cursor.column-low);
       right = omega (arith, b.cursor.column-high);
       fits = rw c.requires.5 (pen-fits _ _ _);
-      from = L.from;
-      inside = L.inside;
-      feeds = L.feeds;
-      text = L.text;
     }
 
 pub returns : goal.returns
 returns c =
     let core = c.args.core in
-    let L = c.lines_ahead-ahead.ensures in
-    rw (c.moved.ensures, c.to_column.ensures) (
+    let ahead = c.lines_ahead-ahead.result in
+    rw c.to_column.ensures (
       lines-spanned core c.args.changed c.args.page.now c.args.input.now c.args.from c.args.pen c.requires.0
           c.requires.1 c.requires.2 (omega arith)
           (λ b. rw c.requires.5 (pen-glyph core b (unshifted-is core.shift (there (goal.at.returns c).Start).unshifted)))
-          c.requires.3 c.requires.4 c.lines_ahead-ahead.result.to L.from L.inside L.text _ _ c.scroll_lines-column.ensures,
-      omega (arith, L.from),
+          c.requires.3 c.requires.4 ahead.text.now (follows (goal.at.returns c).After-lines_ahead-ahead) ahead.plain _ _ c.scroll_lines-column.ensures,
+      omega arith,
+    )
+
+pub overflow_add-result-2 : goal.overflow_add-result-2
+overflow_add-result-2 c =
+    let text = c.lines_ahead-ahead.result.text.now in
+    let rest = drop (c.args.from + 1) c.args.input.now in
+    omega (
+      arith,
+      ap length (follows (goal.at.overflow_add-result-2 c).After-lines_ahead-ahead),
+      length-take (length text) rest,
+      length-drop (c.args.from + 1) c.args.input.now,
+      c.well_formed,
     )
