@@ -1,8 +1,8 @@
 -- The bytes of each reply (SCOPE 7).
-use Rattle.std.specs.Prelude.{Bool, true, false, List, [], ◌∷◌, ◌++◌, ℕ}
+use Rattle.std.specs.Prelude.{Bool, true, false, Option, None, Some, List, [], ◌∷◌, ◌++◌, ℕ}
 use Rattle.ground.specs.Decimals.{decimal}
 use Rattle.device.specs.declared.sending.Reply.{Reply}
-use Rattle.device.specs.declared.sending.Reply.TheVariants.{Silent, PrimaryAttributes, SecondaryAttributes, Status, Position, ExtendedPosition, Printer}
+use Rattle.device.specs.declared.sending.Reply.TheVariants.{PrimaryAttributes, SecondaryAttributes, Status, Position, ExtendedPosition, Printer}
 
 -- CSI: 9B with 8-bit replies, else 1B 5B
 abbrev pub csi : Bool → List ℕ
@@ -11,7 +11,6 @@ csi false = 0x1B ∷ 0x5B ∷ []
 
 -- after CSI: ?64;6c  >41;1;0c  0n  row;columnR  ?row;column;1R  ?13n
 abbrev pub body_of : Reply → List ℕ
-body_of Silent = []
 body_of PrimaryAttributes = 0x3F ∷ 0x36 ∷ 0x34 ∷ 0x3B ∷ 0x36 ∷ 0x63 ∷ []
 body_of SecondaryAttributes = 0x3E ∷ 0x34 ∷ 0x31 ∷ 0x3B ∷ 0x31 ∷ 0x3B ∷ 0x30 ∷ 0x63 ∷ []
 body_of Status = 0x30 ∷ 0x6E ∷ []
@@ -19,11 +18,7 @@ body_of (Position r c) = decimal r ++ (0x3B ∷ []) ++ decimal c ++ (0x52 ∷ []
 body_of (ExtendedPosition r c) = (0x3F ∷ []) ++ decimal r ++ (0x3B ∷ []) ++ decimal c ++ (0x3B ∷ 0x31 ∷ 0x52 ∷ [])
 body_of Printer = 0x3F ∷ 0x31 ∷ 0x33 ∷ 0x6E ∷ []
 
-unfoldable pub reply_bytes : Bool → Reply → List ℕ
-reply_bytes eightbit Silent = []
-reply_bytes eightbit PrimaryAttributes = csi eightbit ++ body_of PrimaryAttributes
-reply_bytes eightbit SecondaryAttributes = csi eightbit ++ body_of SecondaryAttributes
-reply_bytes eightbit Status = csi eightbit ++ body_of Status
-reply_bytes eightbit (Position r c) = csi eightbit ++ body_of (Position r c)
-reply_bytes eightbit (ExtendedPosition r c) = csi eightbit ++ body_of (ExtendedPosition r c)
-reply_bytes eightbit Printer = csi eightbit ++ body_of Printer
+-- of no reply there are none
+unfoldable pub reply_bytes : Bool → Option Reply → List ℕ
+reply_bytes eightbit None = []
+reply_bytes eightbit (Some r) = csi eightbit ++ body_of r

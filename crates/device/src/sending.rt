@@ -12,9 +12,8 @@ use ground::writing::{write_byte, write_bytes};
 
 // ---- the replies
 
-#[derive(Clone, Copy)]
+#[derive(Clone, Copy, PartialEq, Eq, Debug)]
 pub enum Reply {
-    Silent,
     // DA: a VT420 with selective erase.
     PrimaryAttributes,
     // Secondary DA.
@@ -41,7 +40,6 @@ fn body_len(reply: Reply) -> usize
     ensures { Counted (body_of reply) 11 result }
 {
     match reply {
-        Reply::Silent => 0,
         Reply::PrimaryAttributes => 6,
         Reply::SecondaryAttributes => 8,
         Reply::Status => 2,
@@ -51,12 +49,13 @@ fn body_len(reply: Reply) -> usize
     }
 }
 
-pub fn reply_len(eightbit: bool, reply: Reply) -> usize
+// None takes none.
+pub fn reply_len(eightbit: bool, reply: Option<Reply>) -> usize
     ensures { result ≡ length (reply_bytes eightbit reply) }
 {
     match reply {
-        Reply::Silent => 0,
-        _ => csi_len(eightbit) + body_len(reply),
+        None => 0,
+        Some(reply) => csi_len(eightbit) + body_len(reply),
     }
 }
 
@@ -108,7 +107,6 @@ fn send_body(reply: Reply, out: &mut [u8], at: usize) -> usize
     ensures { Wrote out.old at (body_of reply) out.new result }
 {
     match reply {
-        Reply::Silent => at,
         Reply::PrimaryAttributes => write_bytes(out, at, b"?64;6c"),
         Reply::SecondaryAttributes => write_bytes(out, at, b">41;1;0c"),
         Reply::Status => write_bytes(out, at, b"0n"),
@@ -118,13 +116,13 @@ fn send_body(reply: Reply, out: &mut [u8], at: usize) -> usize
     }
 }
 
-pub fn send(eightbit: bool, reply: Reply, out: &mut [u8], at: usize) -> usize
+pub fn send(eightbit: bool, reply: Option<Reply>, out: &mut [u8], at: usize) -> usize
     requires { at + length (reply_bytes eightbit reply) ≤ length out.old }
     ensures { Wrote out.old at (reply_bytes eightbit reply) out.new result }
 {
     match reply {
-        Reply::Silent => at,
-        _ => {
+        None => at,
+        Some(reply) => {
             let next = send_csi(out, at, eightbit);
             send_body(reply, out, next)
         }

@@ -1,5 +1,5 @@
 -- What an arm for "the other actions" of a `match` gives is what the definition has for each of these actions.
-use Rattle.std.proofs.Common.{◌≡◌, ℕ, false, List, [], ◌∷◌, refl}
+use Rattle.std.proofs.Common.{◌≡◌, ℕ, false, None, List, [], ◌∷◌, refl}
 use denote.Enum.Declared.{tag_of}
 use types.Run.{OneOf, miss}
 use Rattle.parser.specs.declared.parser.Action.{Action}
@@ -7,7 +7,6 @@ use Rattle.parser.specs.declared.parser.Action.TheVariants.{Nothing, Character, 
 use Rattle.parser.specs.contracts.parser.Action as action
 use Rattle.core_state.specs.declared.Core.{Core}
 use Rattle.core_state.specs.declared.StatusLine.{StatusLine}
-use Rattle.device.specs.declared.sending.Reply.TheVariants.{Silent}
 use Rattle.dispatch.specs.Replies.{reply}
 use Rattle.dispatch.specs.Heard.{is_ignored}
 use Rattle.dispatch.specs.WrapDue.{clears_wrap}
@@ -17,7 +16,7 @@ use Rattle.dispatch.specs.Displays.{resets_all, leaves_line, tells_line, line_to
 abbrev pub silent_actions : List ℕ
 silent_actions = 0 ∷ 1 ∷ 2 ∷ 3 ∷ 5 ∷ []
 
-pub no-reply : (c : Core) (a : Action) → OneOf silent_actions (tag_of action.the_type a) → Silent ≡ reply c a
+pub no-reply : (c : Core) (a : Action) → OneOf silent_actions (tag_of action.the_type a) → None ≡ reply c a
 no-reply c Nothing h = refl
 no-reply c (Character b) h = refl
 no-reply c Substitute h = refl

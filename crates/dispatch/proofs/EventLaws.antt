@@ -1,5 +1,5 @@
 -- What does not interrupt is no event: it draws no reply, and tells the status line nothing.
-use Rattle.std.proofs.Common.{◌≡◌, ℕ, ◌+◌, ◌-◌, ◌<◌, ◌≤◌, Bool, true, false, not, ◌&&◌, ◌||◌, eqb, ltb, leb, [], sym, refl, ap, ◌∙◌, arith, ne_eqb, eqb-true, leb-true}
+use Rattle.std.proofs.Common.{◌≡◌, ℕ, ◌+◌, ◌-◌, ◌<◌, ◌≤◌, Bool, true, false, not, ◌&&◌, ◌||◌, eqb, ltb, leb, Option, None, [], sym, refl, ap, ◌∙◌, arith, ne_eqb, eqb-true, leb-true}
 use mathlib.Core.Bool.{and-false}
 use borrow.Author.Tests.{eqb-false}
 use Rattle.ground.specs.Tests.{between}
@@ -21,7 +21,6 @@ use Rattle.parser.specs.Parser.{lowered, opens_string, transition, c1_byte, kept
 use Rattle.parser.proofs.PhaseLaws.{phase-same}
 use Rattle.parser.proofs.SequenceLaws.{decode-by}
 use Rattle.device.specs.declared.sending.Reply.{Reply}
-use Rattle.device.specs.declared.sending.Reply.TheVariants.{Silent}
 use Rattle.device.specs.ReplyBytes.{reply_bytes}
 use Rattle.core_state.specs.declared.Core.{Core}
 use Rattle.core_state.specs.declared.StatusLine.{StatusLine}
@@ -157,16 +156,16 @@ by-action P n ch su co c1 es cs (C1Control b) = c1 b
 by-action P n ch su co c1 es cs (EscapeSequence first second last) = es first second last
 by-action P n ch su co c1 es cs (ControlSequence f) = cs f
 
-silent-sequence : (c : Core) (f : Function) → is_notable f.last ≡ false → reply c (ControlSequence f) ≡ Silent
+silent-sequence : (c : Core) (f : Function) → is_notable f.last ≡ false → reply c (ControlSequence f) ≡ None
 silent-sequence c f h =
     let u = unnotable f.last h in
-    let P : Reply → Type 0 = λ (r : Reply). r ≡ Silent in
+    let P : Option Reply → Type 0 = λ (r : Option Reply). r ≡ None in
     either P (is_plain f.mark f.first f.second) (λ _. rw (u.c, u.n))
     (λ _. either P (is_private f.mark f.first f.second) (λ _. rw u.n) (λ _. rw (u.c, and-false)))
 
-quiet-reply : (c : Core) (a : Action) → is_eventful a ≡ false → reply c a ≡ Silent
+quiet-reply : (c : Core) (a : Action) → is_eventful a ≡ false → reply c a ≡ None
 quiet-reply c =
-    by-action (λ (a : Action). is_eventful a ≡ false → reply c a ≡ Silent) (λ h. refl) (λ b h. refl) (λ h. refl) (λ b h. refl) (λ b h. rw h)
+    by-action (λ (a : Action). is_eventful a ≡ false → reply c a ≡ None) (λ h. refl) (λ b h. refl) (λ h. refl) (λ b h. refl) (λ b h. rw h)
     (λ first second last h. refl) (silent-sequence c)
 
 pub quiet-sends : (c : Core) (b : ℕ) → is_eventful (decode c.parser b).action ≡ false → sends c b ≡ []

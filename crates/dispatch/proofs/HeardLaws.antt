@@ -1,12 +1,12 @@
 -- What is not listed has no function and draws no reply, so the code asks only what is ignored here and now.
-use Rattle.std.proofs.Common.{◌≡◌, ℕ, Bool, true, false, cond, not, ◌&&◌, ◌||◌, eqb, List, sym, refl, ap, ◌∙◌, ne_eqb}
+use Rattle.std.proofs.Common.{◌≡◌, ℕ, Bool, true, false, cond, not, ◌&&◌, ◌||◌, eqb, None, Some, List, sym, refl, ap, ◌∙◌, ne_eqb}
 use mathlib.Core.Bool.{false≢true, and-true, and-false}
 use borrow.Author.Tests.{not-false}
 use Rattle.parser.specs.declared.params.Params.{Params}
 use Rattle.parser.specs.declared.families.Function.{Function}
 use Rattle.parser.specs.declared.parser.Action.{Action}
 use Rattle.parser.specs.declared.parser.Action.TheVariants.{Nothing, Character, Substitute, Control, C1Control, EscapeSequence, ControlSequence}
-use Rattle.device.specs.declared.sending.Reply.TheVariants.{SecondaryAttributes, Silent}
+use Rattle.device.specs.declared.sending.Reply.TheVariants.{SecondaryAttributes}
 use Rattle.core_state.specs.declared.Core.{Core}
 use Rattle.vt.specs.Controls.{controlled, c1_controlled}
 use Rattle.vt.specs.Escapes.{escaped}
@@ -142,22 +142,22 @@ heard-taken c a f h s p e =
 
 -- ---- what is not heard draws no reply
 
-plain-silent : (c : Core) (q : Params) (last : ℕ) → (member last plain_finals && not (plain_ignored c q last)) ≡ false → plain_reply c q last ≡ Silent
+plain-silent : (c : Core) (q : Params) (last : ℕ) → (member last plain_finals && not (plain_ignored c q last)) ≡ false → plain_reply c q last ≡ None
 plain-silent c q last =
     at-number P last 0x63 (λ h. absurd (false≢true (sym h)))
     (λ n. at-number P last 0x6E (λ h. absurd (false≢true (sym h)))
     (λ m h. simp ne_eqb))
   where
     P : ℕ → Type 0
-    P x = (member x plain_finals && not (plain_ignored c q x)) ≡ false → plain_reply c q x ≡ Silent
+    P x = (member x plain_finals && not (plain_ignored c q x)) ≡ false → plain_reply c q x ≡ None
 
-private-silent : (c : Core) (q : Params) (last : ℕ) → (member last private_finals && not (private_ignored q last)) ≡ false → private_reply c q last ≡ Silent
+private-silent : (c : Core) (q : Params) (last : ℕ) → (member last private_finals && not (private_ignored q last)) ≡ false → private_reply c q last ≡ None
 private-silent c q last = at-number P last 0x6E (λ h. absurd (false≢true (sym h))) (λ n h. rw (ne_eqb last 0x6E n))
   where
     P : ℕ → Type 0
-    P x = (member x private_finals && not (private_ignored q x)) ≡ false → private_reply c q x ≡ Silent
+    P x = (member x private_finals && not (private_ignored q x)) ≡ false → private_reply c q x ≡ None
 
-unheard-silent : (c : Core) (a : Action) → is_heard c a ≡ false → reply c a ≡ Silent
+unheard-silent : (c : Core) (a : Action) → is_heard c a ≡ false → reply c a ≡ None
 unheard-silent c Nothing h = refl
 unheard-silent c (Character b) h = refl
 unheard-silent c Substitute h = refl
@@ -165,7 +165,7 @@ unheard-silent c (Control b) h = refl
 unheard-silent c (C1Control b) h = at-number P b 0x9A (λ h. absurd (false≢true (sym h))) (λ n h. rw (ne_eqb b 0x9A n)) h
   where
     P : ℕ → Type 0
-    P x = is_heard c (C1Control x) ≡ false → reply c (C1Control x) ≡ Silent
+    P x = is_heard c (C1Control x) ≡ false → reply c (C1Control x) ≡ None
 unheard-silent c (EscapeSequence first second last) h = refl
 unheard-silent c (ControlSequence f) h =
     go (is_plain f.mark f.first f.second) (is_private f.mark f.first f.second)
@@ -177,7 +177,7 @@ unheard-silent c (ControlSequence f) h =
     go : (i j s t : Bool)
         → (cond i (member f.last plain_finals) (cond j (member f.last private_finals) (s || t))
         && not (cond i (plain_ignored c q f.last) (j && private_ignored q f.last))) ≡ false
-        → cond i (plain_reply c q f.last) (cond j (private_reply c q f.last) (cond (s && eqb (param q 0) 0) SecondaryAttributes Silent)) ≡ Silent
+        → cond i (plain_reply c q f.last) (cond j (private_reply c q f.last) (cond (s && eqb (param q 0) 0) (Some SecondaryAttributes) None)) ≡ None
     go true j s t h = plain-silent c q f.last h
     go false true s t h = private-silent c q f.last h
     go false false true t h = absurd (false≢true (sym h))

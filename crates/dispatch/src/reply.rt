@@ -1,7 +1,7 @@
 // What the terminal sends back: which reply an action draws.
 ghost use Rattle.std.specs.Prelude.{◌≡◌, if◌then◌else◌, nat_eq};
 ghost use Rattle.core_state.specs.Bounds.{Bounds};
-ghost use Rattle.device.specs.declared.sending.Reply.TheVariants.{Silent, PrimaryAttributes};
+ghost use Rattle.device.specs.declared.sending.Reply.TheVariants.{PrimaryAttributes};
 ghost use Rattle.dispatch.specs.Heard.{is_secondary};
 ghost use Rattle.dispatch.specs.Replies.{reported_row, plain_reply, private_reply, sequence_reply, reply_to};
 
@@ -23,47 +23,47 @@ fn reported_row(core: Core) -> u8
 }
 
 // DA, DSR, CPR.
-fn plain_reply(core: Core, params: Params, last: u8) -> Reply
+fn plain_reply(core: Core, params: Params, last: u8) -> Option<Reply>
     requires { Bounds core }
     ensures { result ≡ plain_reply core params last }
 {
     let selector = params.get(0);
     // DA
     if (last == 0x63) & (selector == 0) {
-        return Reply::PrimaryAttributes;
+        return Some(Reply::PrimaryAttributes);
     }
     // DSR
     if (last == 0x6E) & (selector == 5) {
-        return Reply::Status;
+        return Some(Reply::Status);
     }
     // CPR
     if (last == 0x6E) & (selector == 6) {
-        return Reply::Position {
+        return Some(Reply::Position {
             row: reported_row(core),
             column: core.cursor.column,
-        };
+        });
     }
-    Reply::Silent
+    None
 }
 
 // DECXCPR and the printer's DSR.
-fn private_reply(core: Core, params: Params, last: u8) -> Reply
+fn private_reply(core: Core, params: Params, last: u8) -> Option<Reply>
     requires { Bounds core }
     ensures { result ≡ private_reply core params last }
 {
     let selector = params.get(0);
     // DECXCPR
     if (last == 0x6E) & (selector == 6) {
-        return Reply::ExtendedPosition {
+        return Some(Reply::ExtendedPosition {
             row: reported_row(core),
             column: core.cursor.column,
-        };
+        });
     }
     // the printer's DSR
     if (last == 0x6E) & (selector == 15) {
-        return Reply::Printer;
+        return Some(Reply::Printer);
     }
-    Reply::Silent
+    None
 }
 
 // Secondary DA: > c.
@@ -74,7 +74,7 @@ fn is_secondary(function: Function) -> bool
         & (function.last == 0x63)
 }
 
-fn sequence_reply(core: Core, function: Function) -> Reply
+fn sequence_reply(core: Core, function: Function) -> Option<Reply>
     requires { Bounds core }
     ensures { result ≡ sequence_reply core core.parser.params function.mark function.first function.second function.last }
 {
@@ -86,29 +86,29 @@ fn sequence_reply(core: Core, function: Function) -> Reply
         return private_reply(core, params, function.last);
     }
     if is_secondary(function) & (params.get(0) == 0) {
-        return Reply::SecondaryAttributes;
+        return Some(Reply::SecondaryAttributes);
     }
-    Reply::Silent
+    None
 }
 
 // DECID is answered as DA.
-fn control_reply(byte: u8) -> Reply
-    ensures { result ≡ (if nat_eq byte 0x9A then PrimaryAttributes else Silent) }
+fn control_reply(byte: u8) -> Option<Reply>
+    ensures { result ≡ (if nat_eq byte 0x9A then Some PrimaryAttributes else None) }
 {
     if byte == 0x9A {
-        return Reply::PrimaryAttributes;
+        return Some(Reply::PrimaryAttributes);
     }
-    Reply::Silent
+    None
 }
 
 // No reply is drawn by what is not heard, so that is not asked.
-pub fn reply_to(core: Core, action: Action) -> Reply
+pub fn reply_to(core: Core, action: Action) -> Option<Reply>
     requires { Bounds core }
     ensures { result ≡ reply_to core action }
 {
     match action {
         Action::C1Control { byte } => control_reply(byte),
         Action::ControlSequence(function) => sequence_reply(core, function),
-        _ => Reply::Silent,
+        _ => None,
     }
 }

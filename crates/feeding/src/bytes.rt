@@ -40,7 +40,7 @@ pub struct FedBytes {
 }
 
 // The reply of the display that bytes act on.
-fn active_reply(core: Core, line: StatusLine, action: Action) -> Reply
+fn active_reply(core: Core, line: StatusLine, action: Action) -> Option<Reply>
     requires { WholeDisplays (record { core = core; line = line }) }
     ensures { result ≡ reply_to (active (record { core = core; line = line })) action }
 {

@@ -1,5 +1,5 @@
 -- No byte sends more than 11 bytes: the row and the column of a whole core have two digits at most.
-use Rattle.std.proofs.Common.{ℕ, ◌<◌, ◌≤◌, Bool, cond, length, arith}
+use Rattle.std.proofs.Common.{ℕ, ◌<◌, ◌≤◌, Bool, cond, Option, length, arith}
 use Rattle.parser.specs.declared.parser.Action.{Action}
 use Rattle.parser.specs.declared.parser.Action.TheVariants.{Nothing, Character, Substitute, Control, C1Control, EscapeSequence, ControlSequence}
 use Rattle.parser.specs.Parser.{decode}
@@ -12,7 +12,7 @@ use Rattle.dispatch.specs.Heard.{heard}
 use Rattle.dispatch.specs.Replies.{reported_row, reply, reply_to}
 use Rattle.dispatch.specs.Decide.{sends}
 
-two-either : (t : Bool) (x y : Reply) → TwoDigits x → TwoDigits y → TwoDigits (cond t x y)
+two-either : (t : Bool) (x y : Option Reply) → TwoDigits x → TwoDigits y → TwoDigits (cond t x y)
 two-either t x y f g = either TwoDigits t (λ _. f) (λ _. g)
 
 module _ (c : Core) (w : Whole c) where

@@ -1,21 +1,12 @@
--- Every reply but none is CSI and a body.
-use native.Mathlib.Omega.{arith}
+-- A reply is CSI and a body, and none is nothing.
 use lib.ListN.{length-append}
 use Rattle.device.specs.ReplyBytes.{reply_bytes}
-use Rattle.device.proofs.SendLaws.{reply-is, csi-short}
-use borrow.Enum.Refused.{opened}
 use Rattle.device.proofs.sending.reply_len.Goals as goal
 
-pub overflow_add-result : goal.overflow_add-result
+pub returns-in-None : goal.returns-in-None
 unfolding reply_bytes
-overflow_add-result c = omega (arith, c.csi_len.ensures, c.body_len.ensures.few, csi-short c.args.eightbit)
+returns-in-None c = rw c.in-None.is
 
-pub returns-in-Silent : goal.returns-in-Silent
+pub returns-in-Some : goal.returns-in-Some
 unfolding reply_bytes
-returns-in-Silent c = rw c.in-Silent.is
-
-pub returns-in_default : goal.returns-in_default
-unfolding reply_bytes
-returns-in_default c =
-    let a = c.args in
-    rw (← reply-is a.eightbit a.reply (opened c.in_default.in_default-own.keys2), length-append, c.csi_len.ensures, c.body_len.ensures.is)
+returns-in-Some c = rw (c.in-Some.is, length-append, c.csi_len.ensures, c.body_len.ensures.is)

@@ -1,5 +1,4 @@
 -- Each arm writes the definition's clause for that reply.
-use Rattle.ground.proofs.WriteLaws.{wrote_none}
 use Rattle.device.proofs.sending.send_body.Goals as goal
 
 pub write_bytes-requires : goal.write_bytes-requires
@@ -19,9 +18,6 @@ send_extended-requires c = rw c.in-ExtendedPosition.is at c.requires
 
 pub write_bytes-requires-in-Printer : goal.write_bytes-requires-in-Printer
 write_bytes-requires-in-Printer c = rw c.in-Printer.is at c.requires
-
-pub returns-in-Silent : goal.returns-in-Silent
-returns-in-Silent c = rw c.in-Silent.is (wrote_none _ _)
 
 pub returns-in-PrimaryAttributes : goal.returns-in-PrimaryAttributes
 returns-in-PrimaryAttributes c = rw c.in-PrimaryAttributes.is c.write_bytes.ensures
