@@ -13,7 +13,7 @@ pub const COLUMNS: usize = 80;
 pub const BLANK: u16 = 0x20;
 
 // The character sets. The first three have 94 signs, Latin-1 has 96.
-#[derive(Clone, Copy)]
+#[derive(Clone, Copy, PartialEq, Eq, Debug)]
 pub enum CharSet {
     Ascii,
     SpecialGraphics,
@@ -22,7 +22,7 @@ pub enum CharSet {
 }
 
 // The visual attributes that SGR selects.
-#[derive(Clone, Copy)]
+#[derive(Clone, Copy, PartialEq, Eq, Debug)]
 pub struct Rendition {
     pub bold: bool,
     pub underline: bool,
@@ -31,7 +31,7 @@ pub struct Rendition {
 }
 
 // A cell, taken apart. Of the code, the lowest seven bits count.
-#[derive(Clone, Copy)]
+#[derive(Clone, Copy, PartialEq, Eq, Debug)]
 pub struct Cell {
     pub code: u8,
     pub set: CharSet,
@@ -40,7 +40,7 @@ pub struct Cell {
 }
 
 // What becomes of one attribute.
-#[derive(Clone, Copy)]
+#[derive(Clone, Copy, PartialEq, Eq, Debug)]
 pub enum Setting {
     Same,
     On,
@@ -49,7 +49,7 @@ pub enum Setting {
 }
 
 // What becomes of each attribute.
-#[derive(Clone, Copy)]
+#[derive(Clone, Copy, PartialEq, Eq, Debug)]
 pub struct Styling {
     pub bold: Setting,
     pub underline: Setting,
@@ -58,11 +58,11 @@ pub struct Styling {
 }
 
 // What becomes of a cell, by what it holds.
-#[derive(Clone, Copy)]
+#[derive(Clone, Copy, PartialEq, Eq, Debug)]
 pub enum CellChange {
     // A space of ASCII that keeps its flags, unless the cell is protected.
     SelectiveErase,
-    // Other attributes, by the number of a styling; code, set and protection stay. (A number, so that an edit
-    // stays within eight bytes.)
+    // Other attributes, by the number of a styling; code, set and protection stay. (A number: with a styling in its
+    // place an edit misses the bar of eight bytes, one register; docs/DECISIONS.md, "Shape".)
     Restyle { styling: u8 },
 }

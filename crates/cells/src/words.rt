@@ -28,12 +28,6 @@ pub fn set_of(number: u8) -> CharSet
     }
 }
 
-fn bit_of(on: bool) -> u16
-    ensures { (result ≡ bit on) × (result < 2) }
-{
-    if on { 1 } else { 0 }
-}
-
 fn flag_of(number: u16) -> bool
     ensures { result ≡ flag number }
 {
@@ -43,23 +37,21 @@ fn flag_of(number: u16) -> bool
 fn rendition_bits(rendition: Rendition) -> u16
     ensures { (result ≡ rendition_bits rendition) × (result < 16) }
 {
-    bit_of(rendition.bold)
-        + 2 * bit_of(rendition.underline)
-        + 4 * bit_of(rendition.blink)
-        + 8 * bit_of(rendition.reverse)
+    u16::from(rendition.bold)
+        + 2 * u16::from(rendition.underline)
+        + 4 * u16::from(rendition.blink)
+        + 8 * u16::from(rendition.reverse)
 }
 
 // The word of a cell. Of its code, the lowest seven bits are kept.
 pub fn pack(cell: Cell) -> u16
     ensures { result ≡ packed cell }
 {
-    let set = cell.set;
-    let rendition = cell.rendition;
     let code = cell.code % 128;
     code as u16
-        + 128 * set_number(set) as u16
-        + 512 * rendition_bits(rendition)
-        + 8192 * bit_of(cell.protected)
+        + 128 * set_number(cell.set) as u16
+        + 512 * rendition_bits(cell.rendition)
+        + 8192 * u16::from(cell.protected)
 }
 
 // The cell that a word holds.
@@ -115,64 +107,64 @@ fn set_by(setting: Setting, on: bool) -> bool
 }
 
 // Settings and stylings as numbers, and back: a digit of base 4 for each attribute.
-fn setting_number(setting: Setting) -> u8
-    ensures { (result ≡ setting_number setting) × (result < 4) }
-{
-    match setting {
-        Setting::Same => 0,
-        Setting::On => 1,
-        Setting::Off => 2,
-        Setting::Flipped => 3,
+impl From<Setting> for u8 {
+    ghost from_gives = { λ s n. (n ≡ setting_number s) × (n < 4) };
+
+    fn from(setting: Setting) -> u8 {
+        match setting {
+            Setting::Same => 0,
+            Setting::On => 1,
+            Setting::Off => 2,
+            Setting::Flipped => 3,
+        }
     }
 }
 
-fn setting_of(number: u8) -> Setting
-    ensures { result ≡ setting_of number }
-{
-    match number {
-        0 => Setting::Same,
-        1 => Setting::On,
-        2 => Setting::Off,
-        _ => Setting::Flipped,
+impl From<u8> for Setting {
+    ghost from_gives = { λ n s. s ≡ setting_of n };
+
+    fn from(number: u8) -> Setting {
+        match number {
+            0 => Setting::Same,
+            1 => Setting::On,
+            2 => Setting::Off,
+            _ => Setting::Flipped,
+        }
     }
 }
 
-pub fn styling_number(styling: Styling) -> u8
-    ensures { result ≡ styling_number styling }
-{
-    let bold = styling.bold;
-    let underline = styling.underline;
-    let blink = styling.blink;
-    let reverse = styling.reverse;
-    setting_number(bold)
-        + 4 * setting_number(underline)
-        + 16 * setting_number(blink)
-        + 64 * setting_number(reverse)
+impl From<Styling> for u8 {
+    ghost from_gives = { λ s n. n ≡ styling_number s };
+
+    fn from(styling: Styling) -> u8 {
+        u8::from(styling.bold)
+            + 4 * u8::from(styling.underline)
+            + 16 * u8::from(styling.blink)
+            + 64 * u8::from(styling.reverse)
+    }
 }
 
-fn styling_of(number: u8) -> Styling
-    ensures { result ≡ styling_of number }
-{
-    Styling {
-        bold: setting_of(number % 4),
-        underline: setting_of(number / 4 % 4),
-        blink: setting_of(number / 16 % 4),
-        reverse: setting_of(number / 64),
+impl From<u8> for Styling {
+    ghost from_gives = { λ n s. s ≡ styling_of n };
+
+    fn from(number: u8) -> Styling {
+        Styling {
+            bold: Setting::from(number % 4),
+            underline: Setting::from(number / 4 % 4),
+            blink: Setting::from(number / 16 % 4),
+            reverse: Setting::from(number / 64),
+        }
     }
 }
 
 fn style(styling: Styling, rendition: Rendition) -> Rendition
     ensures { result ≡ styled styling rendition }
 {
-    let bold = styling.bold;
-    let underline = styling.underline;
-    let blink = styling.blink;
-    let reverse = styling.reverse;
     Rendition {
-        bold: set_by(bold, rendition.bold),
-        underline: set_by(underline, rendition.underline),
-        blink: set_by(blink, rendition.blink),
-        reverse: set_by(reverse, rendition.reverse),
+        bold: set_by(styling.bold, rendition.bold),
+        underline: set_by(styling.underline, rendition.underline),
+        blink: set_by(styling.blink, rendition.blink),
+        reverse: set_by(styling.reverse, rendition.reverse),
     }
 }
 
@@ -181,13 +173,9 @@ fn restyle(styling: Styling, word: u16) -> u16
     ensures { result ≡ restyled styling word }
 {
     let cell = unpack(word);
-    let set = cell.set;
-    let rendition = cell.rendition;
     pack(Cell {
-        code: cell.code,
-        set,
-        rendition: style(styling, rendition),
-        protected: cell.protected,
+        rendition: style(styling, cell.rendition),
+        ..cell
     })
 }
 
@@ -197,6 +185,6 @@ pub fn changed_by(change: CellChange, word: u16) -> u16
 {
     match change {
         CellChange::SelectiveErase => selectively_erase(word),
-        CellChange::Restyle { styling } => restyle(styling_of(styling), word),
+        CellChange::Restyle { styling } => restyle(Styling::from(styling), word),
     }
 }

@@ -4,7 +4,6 @@ ghost use Rattle.rectangles.specs.Functions as functions;
 
 use crate::areas::{Area, area_at, column_edge, is_taken, row_edge};
 use crate::attributes::restyling_of;
-use cells::words::styling_number;
 use cells::{BLANK, COLUMNS, CellChange, Styling};
 use core_state::effects::{unedited, without_shift};
 use core_state::glyphs::{glyph, skipped, used_set};
@@ -98,7 +97,7 @@ fn restyle(rectangle: bool, area: Area, styling: Styling) -> Edit
     ensures { result ≡ functions.restyled rectangle area styling }
 {
     let restyle = CellChange::Restyle {
-        styling: styling_number(styling),
+        styling: u8::from(styling),
     };
     if rectangle {
         return change(area, restyle);

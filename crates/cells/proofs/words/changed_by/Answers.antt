@@ -5,4 +5,4 @@ pub returns-in-SelectiveErase : goal.returns-in-SelectiveErase
 returns-in-SelectiveErase c = search c.in-SelectiveErase.is
 
 pub returns-in-Restyle : goal.returns-in-Restyle
-returns-in-Restyle c = rw (c.in-Restyle.is, ← c.styling_of.ensures) c.restyle.ensures
+returns-in-Restyle c = rw (c.in-Restyle.is, ← c.from.ensures) c.restyle.ensures
