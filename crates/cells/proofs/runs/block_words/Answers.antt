@@ -7,7 +7,7 @@ use Rattle.ground.proofs.ListLaws.{split-eq}
 use Rattle.cells.proofs.runs.block_words.Goals as goal
 
 pub loop-k-preserved : goal.loop-k-preserved
-loop-k-preserved c =
+loop-k-preserved g c =
     let i = c.loop-k.invariant in (
       length-set c.loop-k.words c.loop-k.k _ ∙ i.0,
       λ j h. ⊎_elim

@@ -5,4 +5,4 @@ use Rattle.cells.specs.Runs.{BlockWords}
 use Rattle.cells.proofs.runs.block_words.Given as goal
 
 abbrev pub invariant-loop-k : goal.invariant-loop-k
-invariant-loop-k l = (length l.words ≡ 16) × BlockWords l.words l.input l.from l.k l.base
+invariant-loop-k g l = (length l.words ≡ g.row.N) × BlockWords l.words l.input l.from l.k l.base

@@ -5,4 +5,4 @@ use Rattle.cells.specs.Runs.{Plain}
 use Rattle.cells.proofs.runs.is_plain.Given as goal
 
 abbrev pub invariant-loop-k : goal.invariant-loop-k
-invariant-loop-k l = l.plain ≡ true → Plain l.input l.from l.k l.low
+invariant-loop-k g l = l.plain ≡ true → Plain l.input l.from l.k l.low

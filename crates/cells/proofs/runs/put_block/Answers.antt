@@ -7,7 +7,7 @@ use Rattle.cells.proofs.Putting.{put-block}
 use Rattle.cells.proofs.runs.put_block.Goals as goal
 
 pub returns : goal.returns
-returns c =
+returns g c =
     let pre = c.requires in
-    let long : length c.block_words-words.result ≡ 16 = search rules in
-    put-block _ pre.3 (omega arith) pre.1 pre.4 c.block_words-words.ensures (c.paste_words.ensures _ (omega arith) (λ k w l e. search rules))
+    let long : length c.block_words-words.result ≡ g.row.N = search rules in
+    put-block _ pre.2 (omega arith) pre.1 pre.3 c.block_words-words.ensures (c.paste_words.ensures _ (omega arith) (λ k w l e. search rules))

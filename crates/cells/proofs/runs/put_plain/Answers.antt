@@ -5,7 +5,7 @@ use Rattle.cells.proofs.runs.put_plain.Goals as goal
 
 pub put_block-changed-requires : goal.put_block-changed-requires
 put_block-changed-requires c =
-    (omega arith, omega arith, omega arith, c.requires.2, c.is_plain.ensures (c.if-not-is_plain.false))
+    (omega arith, omega arith, c.requires.2, c.is_plain.ensures (c.if-not-is_plain.false))
 
 pub returns : goal.returns
 returns c =
