@@ -8,7 +8,7 @@ pub fn row_bit(row: u8, changed: bool) -> u64
     requires { row < 64 }
     ensures { result ≡ bit changed * 2 ^ row }
 {
-    if changed { 1u64 << row } else { 0 }
+    u64::from(changed) << row
 }
 
 // Whether a row is in a set.

@@ -122,10 +122,7 @@ fn put_plain(page: &mut [u16], to: usize, most: usize, input: &[u8], from: usize
 {
     let blocks = put_blocks(page, to, most, input, from, pen);
     let k = blocks.count;
-    if most < k + 8 {
-        return blocks;
-    }
-    if !is_plain::<8>(input, from + k, pen.low) {
+    if most < k + 8 || !is_plain::<8>(input, from + k, pen.low) {
         return blocks;
     }
     let changed = put_block::<8>(page, to + k, input, from + k, pen);

@@ -97,14 +97,7 @@ fn scroll_down(page: &mut [u16], block: Block, count: u8, known: u64) -> u64
 fn column_in(place: u16, row: u8) -> u8
     ensures { result ≡ range_start place row }
 {
-    let first = WIDTH * (row as u16);
-    if place <= first {
-        0
-    } else if place - first < WIDTH {
-        (place - first) as u8
-    } else {
-        WIDTH as u8
-    }
+    place.saturating_sub(WIDTH * (row as u16)).min(WIDTH) as u8
 }
 
 // Each cell of a range becomes `word`.
@@ -231,6 +224,5 @@ pub fn apply(edit: Edit, page: &mut [u16], rows: u8, known: u64) -> u64
 pub fn clear(page: &mut [u16])
     ensures { page.new ≡ replicate (length page.old) blank }
 {
-    let len = page.len();
-    let _ = fill_words(page, 0, len, BLANK);
+    page.fill(BLANK);
 }
