@@ -22,7 +22,7 @@ pub enum CharSet {
 }
 
 // The visual attributes that SGR selects.
-#[derive(Clone, Copy, PartialEq, Eq, Debug)]
+#[derive(Clone, Copy, Default, PartialEq, Eq, Debug)]
 pub struct Rendition {
     pub bold: bool,
     pub underline: bool,

@@ -28,12 +28,7 @@ pub fn fresh_cursor() -> Cursor
 pub fn plain_rendition() -> Rendition
     ensures { result ≡ plain }
 {
-    Rendition {
-        bold: false,
-        underline: false,
-        blink: false,
-        reverse: false,
-    }
+    Rendition::default()
 }
 
 // Off, but the cursor is shown.
@@ -41,13 +36,8 @@ pub fn fresh_modes() -> Modes
     ensures { result ≡ fresh_modes }
 {
     Modes {
-        insert: false,
-        newline: false,
-        origin: false,
-        autowrap: false,
         shown: true,
-        eightbit: false,
-        rectangle: false,
+        ..Modes::default()
     }
 }
 

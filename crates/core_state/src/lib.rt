@@ -26,7 +26,7 @@ pub struct Margins {
 
 // `shown` is the cursor's (DECTCEM); `eightbit` sends a reply's CSI as one byte (S8C1T); with `rectangle` the
 // attributes of a rectangle are changed, else those of a stream (DECSACE).
-#[derive(Clone, Copy)]
+#[derive(Clone, Copy, Default)]
 pub struct Modes {
     pub insert: bool,
     pub newline: bool,
