@@ -13,9 +13,13 @@ use lib.ListN.{length, length-set, get_or-replicate}
 use lib.Pow.{pow_pos}
 use lib.Seq.{get_or-set_same, get_or-set_other}
 use borrow.Author.Tests.{eq-eqb, ne_eqb, eqb-true, eqb-false}
+use lib.Bits.{bit_and, bit_or, or_add_and}
+use Rattle.std.proofs.lemmas.Nat.{and_comm, and-not, pow_below}
+use Rattle.std.proofs.lemmas.Nat.Bits.{and_pow}
+use Rattle.std.proofs.lemmas.List.{set-get_or}
 use Rattle.cells.specs.Sets.{has_bit}
 use Rattle.ground.proofs.TestLaws.{either, at-number}
-use Rattle.ground.proofs.ListLaws.{split-eq}
+use Rattle.ground.proofs.ListLaws.{known, split-eq}
 use Rattle.device.specs.declared.tabs.Tabs.{Tabs}
 use Rattle.device.specs.Tabs.{tab_byte, is_tab, with_byte, with_tab, without_tab, no_tabs, next_among, every_eighth, tabs_up_to}
 
@@ -24,16 +28,8 @@ use Rattle.device.specs.Tabs.{tab_byte, is_tab, with_byte, with_tab, without_tab
 half-bit : (m k : ℕ) → has_bit m (suc k) ≡ has_bit (m / 2) k
 half-bit m k = rw (pow-succ' 2 k, ← div-div-eq-div-mul m 2 (2 ^ k))
 
--- a weight can be added where it is not there
-pub weight-fits : (b n k : ℕ) → b < 2 ^ n → k < n → has_bit b k ≡ false → b + 2 ^ k < 2 ^ n
-weight-fits b zero k h l e = absurd (omega arith)
-weight-fits b (suc n) zero h l e = omega (arith, pow-succ' 2 n, eqb-false (b / 2 ^ 0 % 2) 1 e)
-weight-fits b (suc n) (suc k) h l e =
-    let half = weight-fits (b / 2) n k (omega (arith, pow-succ' 2 n)) (omega arith) (sym (half-bit b k) ∙ e) in
-    omega (arith, pow-succ' 2 n, pow-succ' 2 k)
-
--- and taken where it is
-pub weight-there : (b k : ℕ) → has_bit b k ≡ true → 2 ^ k ≤ b
+-- a weight can be taken where it is
+weight-there : (b k : ℕ) → has_bit b k ≡ true → 2 ^ k ≤ b
 weight-there b zero e = omega (arith, eqb-true (b / 2 ^ 0 % 2) 1 e)
 weight-there b (suc k) e = let half = weight-there (b / 2) k (sym (half-bit b k) ∙ e) in omega (arith, pow-succ' 2 k)
 
@@ -55,6 +51,44 @@ bit-taken b k e j =
     let more : b / 2 ^ k ≡ (b - 2 ^ k) / 2 ^ k + 1 = rw back at (add-div_right (b - 2 ^ k) (pow_pos k)) in
     let gone : has_bit (b - 2 ^ k) k ≡ false = ne_eqb ((b - 2 ^ k) / 2 ^ k % 2) 1 (omega (arith, more, eqb-true (b / 2 ^ k % 2) 1 e)) in
     either (λ (x : Bool). has_bit (b - 2 ^ k) j ≡ x) (eqb j k) (λ f. rw (eqb-true j k f) gone) (λ f. sym (rw (back, f) at (bit_added (b - 2 ^ k) k gone j)))
+
+-- ---- a bit is read by `&`, set by `|` and cleared by `& !`
+
+and_there : (b k : ℕ) → has_bit b k ≡ true → bit_and b (2 ^ k) ≡ 2 ^ k
+and_there b k e = let one : b / 2 ^ k % 2 ≡ 1 = eqb-true (b / 2 ^ k % 2) 1 e in rw (and_pow b k, one) (omega arith)
+
+and_absent : (b k : ℕ) → has_bit b k ≡ false → bit_and b (2 ^ k) ≡ 0
+and_absent b k e = let none : b / 2 ^ k % 2 ≡ 0 = omega (arith, eqb-false (b / 2 ^ k % 2) 1 e) in rw (and_pow b k, none) (omega arith)
+
+pub bit_read : (b k : ℕ) → not (eqb (bit_and b (2 ^ k)) 0) ≡ has_bit b k
+bit_read b k =
+    ⊎_elim (λ e. rw (and_there b k e, ne_eqb (2 ^ k) 0 (omega (arith, pow_pos k))) (sym e)) (λ e. rw (and_absent b k e) (sym e)) (known (has_bit b k))
+
+module _ (t : Tabs) (c : ℕ) where
+  abbrev weight : ℕ
+  weight = 2 ^ ((c - 1) % 8)
+
+  -- the byte as it is
+  kept : with_byte t c (tab_byte t c) ≡ t
+  kept = rw set-get_or
+
+  pub tab_ored : with_byte t c (bit_or (tab_byte t c) weight) ≡ with_tab t c
+  unfolding with_tab
+  tab_ored =
+      let both = or_add_and (tab_byte t c) weight in
+      either (λ (x : Tabs). with_byte t c (bit_or (tab_byte t c) weight) ≡ x) (is_tab t c)
+      (λ e. let same : bit_or (tab_byte t c) weight ≡ tab_byte t c = omega (arith, both, and_there (tab_byte t c) ((c - 1) % 8) e) in rw same kept)
+      (λ e. let more : bit_or (tab_byte t c) weight ≡ tab_byte t c + weight = omega (arith, both, and_absent (tab_byte t c) ((c - 1) % 8) e) in rw more)
+
+  pub tab_masked : tab_byte t c < 256 → with_byte t c (bit_and (tab_byte t c) (255 - weight)) ≡ without_tab t c
+  unfolding without_tab
+  tab_masked h =
+      let both = and-not 8 weight (tab_byte t c) (pow_below ((c - 1) % 8) 8 (omega arith)) h in
+      let left : bit_and (tab_byte t c) (255 - weight) + bit_and (tab_byte t c) weight ≡ tab_byte t c =
+      rw (and_comm (tab_byte t c) (255 - weight), and_comm (tab_byte t c) weight) both in
+      either (λ (x : Tabs). with_byte t c (bit_and (tab_byte t c) (255 - weight)) ≡ x) (is_tab t c)
+      (λ e. let less : bit_and (tab_byte t c) (255 - weight) ≡ tab_byte t c - weight = omega (arith, left, and_there (tab_byte t c) ((c - 1) % 8) e) in rw less)
+      (λ e. let same : bit_and (tab_byte t c) (255 - weight) ≡ tab_byte t c = omega (arith, left, and_absent (tab_byte t c) ((c - 1) % 8) e) in rw same kept)
 
 -- ---- the flags of the columns
 

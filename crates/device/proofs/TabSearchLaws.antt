@@ -3,7 +3,7 @@
 use mathlib.Core.Path.{◌≡◌, refl, sym, ap, ◌∙◌}
 use mathlib.Core.Bool.{Bool, true, false, cond, not, ◌||◌, false≢true}
 use mathlib.Core.List.{[], ◌∷◌}
-use Prim.Native.Nat.{ℕ, zero, suc, ◌+◌, ◌-◌, ◌*◌, ◌/◌, ◌%◌, ◌^◌, ◌≤◌, ◌<◌, min, max}
+use Prim.Native.Nat.{ℕ, zero, suc, ◌+◌, ◌-◌, ◌*◌, ◌/◌, ◌%◌, ◌^◌, ◌≤◌, ◌<◌, min}
 use native.Mathlib.Nat.{add_assoc, zero-add, add-zero, add-suc, suc-add, zero-div}
 use native.Mathlib.Numerals.{add-one}
 use native.Mathlib.Omega.{arith}
@@ -216,8 +216,8 @@ cut (suc n) k t c =
     (λ e. rw e (omega arith))
     (λ e. rw (e, add-suc c n, ← suc-add c n) (cut n k t (suc c))))
 
-pub search-held : (t : Tabs) (c last : ℕ) → c < last → last ≤ 80 → max 0 (min last (searched t c).column) ≡ next_tab t c last
-search-held t c last l h =
+pub search-min : (t : Tabs) (c last : ℕ) → c < last → last ≤ 80 → min (searched t c).column last ≡ next_tab t c last
+search-min t c last l h =
     let here : c + (last - c) ≡ last = omega arith in
     let all : (last - c) + (80 - last) ≡ 80 - c = omega arith in
     let found = (every-search t c).same in

@@ -1,9 +1,7 @@
 // The tab stops.
-ghost use Rattle.std.specs.Prelude.{◌≡◌, ◌+◌, ◌%◌, ◌≤◌, ◌<◌, ◌^◌};
+ghost use Rattle.std.specs.Prelude.{◌≡◌, ◌-◌, ◌/◌, ◌%◌, ◌≤◌, ◌<◌, ◌^◌};
 ghost use Rattle.device.specs.Tabs.{is_tab, with_tab, without_tab, no_tabs, next_tab};
 ghost use Rattle.device.specs.TabSearch.{any_among, searched};
-
-use ground::numbers::held;
 
 // Eighty flags, eight to a byte: column 1 is the lowest bit of the first byte.
 #[derive(Clone, Copy)]
@@ -18,12 +16,14 @@ pub struct Found {
     pub looks: u8,
 }
 
-// What flag `k` of a byte is worth.
-fn weight(k: u8) -> u8
-    requires { k < 8 }
-    ensures { result ≡ 2 ^ k }
+// Where a column's flag is: its byte, and its bit there.
+fn flag_of(column: u8) -> (usize, u8)
+    requires { (1 ≤ column) × (column ≤ 80) }
+    ensures byte { result.0 ≡ (column - 1) / 8 }
+    ensures bit { result.1 ≡ 2 ^ ((column - 1) % 8) }
 {
-    1u8 << k
+    let place = column - 1;
+    ((place / 8) as usize, 1u8 << (place % 8))
 }
 
 impl Tabs {
@@ -32,11 +32,8 @@ impl Tabs {
         requires { (1 ≤ column) × (column ≤ 80) }
         ensures { result ≡ is_tab self column }
     {
-        let flags = self.flags;
-        let place = column - 1;
-        let at = (place / 8) as usize;
-        let byte = flags[at];
-        (byte >> (place % 8)) % 2 == 1
+        let (at, bit) = flag_of(column);
+        self.flags[at] & bit != 0
     }
 
     // HTS.
@@ -44,12 +41,8 @@ impl Tabs {
         requires { (1 ≤ column) × (column ≤ 80) }
         ensures { result ≡ with_tab self column }
     {
-        if self.get(column) {
-            return self;
-        }
-        let place = column - 1;
-        let at = (place / 8) as usize;
-        self.flags[at] = self.flags[at] + weight(place % 8);
+        let (at, bit) = flag_of(column);
+        self.flags[at] |= bit;
         self
     }
 
@@ -58,11 +51,8 @@ impl Tabs {
         requires { (1 ≤ column) × (column ≤ 80) }
         ensures { result ≡ without_tab self column }
     {
-        if self.get(column) {
-            let place = column - 1;
-            let at = (place / 8) as usize;
-            self.flags[at] = self.flags[at] - weight(place % 8);
-        }
+        let (at, bit) = flag_of(column);
+        self.flags[at] &= !bit;
         self
     }
 
@@ -70,7 +60,7 @@ impl Tabs {
     pub fn clear_all(self) -> Self
         ensures { result ≡ no_tabs }
     {
-        Tabs { flags: [0u8; 10] }
+        Tabs { flags: [0; 10] }
     }
 
     // A look at eight flags together, those right of `column`: is one of them set?
@@ -78,13 +68,12 @@ impl Tabs {
         requires { (column < 80) × (column % 8 ≡ 0) }
         ensures { result ≡ any_among 8 self column }
     {
-        let flags = self.flags;
-        let at = (column / 8) as usize;
-        flags[at] != 0
+        self.flags[(column / 8) as usize] != 0
     }
 
     // The next tab right of a column, else the last column. Where an eight begins it is looked at as a whole, and passed
     // over if it has no tab. Each look stands beside its count, and the flags are read by `get` and `any` alone.
+    // (A `while`, since the column goes on by one or by eight.)
     pub fn search(self, column: u8) -> Found
         ensures { result ≡ searched self column }
     {
@@ -117,7 +106,6 @@ impl Tabs {
         if last <= column {
             return column;
         }
-        let found = self.search(column);
-        held(found.column, 0, last)
+        self.search(column).column.min(last)
     }
 }
