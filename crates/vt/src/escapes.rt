@@ -115,26 +115,22 @@ fn designate(mut core: Core, register: Register, set: CharSet) -> Decision
 fn designate_94(core: Core, register: Register, second: u8, last: u8) -> Decision
     ensures { result ≡ escapes.designate94 core register second last }
 {
-    if (second == 0) & (last == 0x42) {
-        return designate(core, register, CharSet::Ascii);
+    match (second, last) {
+        (0, 0x42) => designate(core, register, CharSet::Ascii),
+        (0, 0x30) => designate(core, register, CharSet::SpecialGraphics),
+        (0x25, 0x35) => designate(core, register, CharSet::Supplemental),
+        _ => unedited(core),
     }
-    if (second == 0) & (last == 0x30) {
-        return designate(core, register, CharSet::SpecialGraphics);
-    }
-    if (second == 0x25) & (last == 0x35) {
-        return designate(core, register, CharSet::Supplemental);
-    }
-    unedited(core)
 }
 
 // A designates the 96-sign set.
 fn designate_96(core: Core, register: Register, second: u8, last: u8) -> Decision
     ensures { result ≡ escapes.designate96 core register second last }
 {
-    if (second == 0) & (last == 0x41) {
-        return designate(core, register, CharSet::Latin1);
+    match (second, last) {
+        (0, 0x41) => designate(core, register, CharSet::Latin1),
+        _ => unedited(core),
     }
-    unedited(core)
 }
 
 // ---- the sequences
@@ -160,23 +156,21 @@ fn plain_escape(core: Core, last: u8) -> Decision
 fn space_escape(core: Core, second: u8, last: u8) -> Decision
     ensures { result ≡ escapes.space_escape core second last }
 {
-    if (second == 0) & (last == 0x46) {
-        return select_c1_transmission(core, false);
+    match (second, last) {
+        (0, 0x46) => select_c1_transmission(core, false),
+        (0, 0x47) => select_c1_transmission(core, true),
+        _ => unedited(core),
     }
-    if (second == 0) & (last == 0x47) {
-        return select_c1_transmission(core, true);
-    }
-    unedited(core)
 }
 
 // ESC # 8 (DECALN).
 fn hash_escape(core: Core, second: u8, last: u8) -> Decision
     ensures { result ≡ escapes.hash_escape core second last }
 {
-    if (second == 0) & (last == 0x38) {
-        return align_screen(core);
+    match (second, last) {
+        (0, 0x38) => align_screen(core),
+        _ => unedited(core),
     }
-    unedited(core)
 }
 
 #[tactic(auto, unfolding(crate::specs::Escapes::escaped))]
