@@ -1,13 +1,14 @@
 // The controls: below 20 and 80 to 9F.
 ghost use Rattle.std.specs.Prelude.{◌≡◌, ◌≤◌};
 ghost use Rattle.core_state.specs.Bounds.{Bounds};
+ghost use Rattle.core_state.specs.Geometry.{stops_of};
 ghost use Rattle.vt.specs.Escapes.{into_gl};
 ghost use Rattle.core_state.specs.Effects as effects;
 ghost use Rattle.vt.specs.Controls as controls;
 
 use crate::printing::index_edit;
 use core_state::effects::{one_edit, unedited};
-use core_state::geometry::{Stops, left_stop, right_stop, stops_of};
+use core_state::geometry::{left_stop, right_stop};
 use core_state::{Core, Decision, Margins};
 use device::charsets::{Register, SingleShift};
 use device::cursor::Cursor;
@@ -20,7 +21,7 @@ fn index_from(mut core: Core, cursor: Cursor) -> Decision
     requires { (cursor.row ≤ core.rows) × (1 ≤ core.margins.top) }
     ensures { result ≡ controls.index_from core cursor }
 {
-    let edit = index_edit(core.margins, stops_of(core), cursor);
+    let edit = index_edit(core, cursor);
     core.cursor = cursor.index(core.margins.bottom, core.rows);
     one_edit(core, edit)
 }
@@ -53,16 +54,18 @@ pub fn line_feed(core: Core) -> Decision
 }
 
 // RI at the top margin: rows T to B scroll down, if there are two or more.
-fn reverse_index_edit(margins: Margins, stops: Stops, cursor: Cursor) -> Edit
-    requires { (1 ≤ margins.top) × (1 ≤ stops.left) }
-    ensures { result ≡ controls.reverse_index_edit margins stops cursor }
+// (Not one with `index_edit`: both the margin and the edit differ, and a direction would choose each.)
+fn reverse_index_edit(core: Core) -> Edit
+    requires { 1 ≤ core.margins.top }
+    ensures { result ≡ controls.reverse_index_edit core.margins (stops_of core) core.cursor }
 {
-    if (cursor.row == margins.top) & (margins.top < margins.bottom) {
+    let Margins { top, bottom } = core.margins;
+    if (core.cursor.row == top) & (top < bottom) {
         return Edit::ScrollDown {
-            top: margins.top - 1,
-            end: margins.bottom,
-            left: stops.left - 1,
-            right: stops.right,
+            top: top - 1,
+            end: bottom,
+            left: left_stop(core) - 1,
+            right: right_stop(core),
             count: 1,
         };
     }
@@ -74,7 +77,7 @@ pub fn reverse_index(mut core: Core) -> Decision
     requires { Bounds core }
     ensures { result ≡ controls.reverse_indexed core }
 {
-    let edit = reverse_index_edit(core.margins, stops_of(core), core.cursor);
+    let edit = reverse_index_edit(core);
     core.cursor = core.cursor.reverse_index(core.margins.top);
     one_edit(core, edit)
 }

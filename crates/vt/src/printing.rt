@@ -1,29 +1,31 @@
 // Printing: a byte 20 to 7F or A0 to FF, and SUB.
 ghost use Rattle.std.specs.Prelude.{◌≡◌, ◌≤◌};
 ghost use Rattle.core_state.specs.Bounds.{Bounds};
+ghost use Rattle.core_state.specs.Geometry.{stops_of};
 ghost use Rattle.vt.specs.Printing as printing;
 
 use cells::CharSet;
 use core_state::effects::{unedited, without_shift};
-use core_state::geometry::{Stops, stops_of};
+use core_state::geometry::{left_stop, right_stop};
 use core_state::glyphs::{cell_word, glyph, skipped, used_set};
-use core_state::{Core, Decision, Margins, Modes};
+use core_state::{Core, Decision, Margins};
 use device::cursor::Cursor;
 use page::Edit;
 
-// ---- the edits
+// ---- the edits, with the cursor at a place
 
 // IND at the bottom margin: rows T to B scroll up, if there are two or more.
-pub fn index_edit(margins: Margins, stops: Stops, cursor: Cursor) -> Edit
-    requires { (1 ≤ margins.top) × (1 ≤ stops.left) }
-    ensures { result ≡ printing.index_edit margins stops cursor }
+pub fn index_edit(core: Core, cursor: Cursor) -> Edit
+    requires { 1 ≤ core.margins.top }
+    ensures { result ≡ printing.index_edit core.margins (stops_of core) cursor }
 {
-    if (cursor.row == margins.bottom) & (margins.top < margins.bottom) {
+    let Margins { top, bottom } = core.margins;
+    if (cursor.row == bottom) & (top < bottom) {
         return Edit::ScrollUp {
-            top: margins.top - 1,
-            end: margins.bottom,
-            left: stops.left - 1,
-            right: stops.right,
+            top: top - 1,
+            end: bottom,
+            left: left_stop(core) - 1,
+            right: right_stop(core),
             count: 1,
         };
     }
@@ -31,17 +33,17 @@ pub fn index_edit(margins: Margins, stops: Stops, cursor: Cursor) -> Edit
 }
 
 // The cell is put; in insert mode the cells from the cursor move right one.
-fn put_edit(insert: bool, stops: Stops, cursor: Cursor, word: u16) -> Edit
+fn put_edit(core: Core, cursor: Cursor, word: u16) -> Edit
     requires { (1 ≤ cursor.row) × (1 ≤ cursor.column) }
-    ensures { result ≡ printing.put_edit insert stops cursor word }
+    ensures { result ≡ printing.put_edit core.modes.insert (stops_of core) cursor word }
 {
     let row = cursor.row - 1;
     let column = cursor.column - 1;
-    if insert {
+    if core.modes.insert {
         return Edit::InsertCells {
             row,
             column,
-            end: stops.right,
+            end: right_stop(core),
             count: 1,
             word,
         };
@@ -49,7 +51,7 @@ fn put_edit(insert: bool, stops: Stops, cursor: Cursor, word: u16) -> Edit
     Edit::Put { row, column, word }
 }
 
-// ---- the printing rule, over the parts of a core that it reads
+// ---- the printing rule
 
 // Where the cursor goes, and the edits.
 #[derive(Clone, Copy)]
@@ -60,58 +62,37 @@ pub struct Printed {
 }
 
 // Where the character goes: with wrap due, to the first column of the next line.
-fn print_place(cursor: Cursor, margins: Margins, rows: u8, stops: Stops) -> Cursor
-    requires { cursor.row ≤ rows }
-    ensures { result ≡ printing.print_place cursor margins rows stops }
+fn print_place(core: Core) -> Cursor
+    requires { core.cursor.row ≤ core.rows }
+    ensures { result ≡ printing.print_place core.cursor core.margins core.rows (stops_of core) }
 {
-    if cursor.wrap {
-        return cursor.to_column(stops.left).index(margins.bottom, rows);
+    if core.cursor.wrap {
+        let start = core.cursor.to_column(left_stop(core));
+        return start.index(core.margins.bottom, core.rows);
     }
-    cursor
+    core.cursor
 }
 
-fn print_at(
-    cursor: Cursor,
-    margins: Margins,
-    rows: u8,
-    modes: Modes,
-    stops: Stops,
-    word: u16,
-) -> Printed
-    requires { (1 ≤ cursor.row) × (cursor.row ≤ rows) × (1 ≤ cursor.column) × (1 ≤ margins.top) × (1 ≤ stops.left) }
-    ensures { result ≡ printing.print_at cursor margins rows modes stops word }
-{
-    let place = print_place(cursor, margins, rows, stops);
-    let put = put_edit(modes.insert, stops, place, word);
-    let next = place.advance(stops.right, modes.autowrap);
-    if cursor.wrap {
-        let start = cursor.to_column(stops.left);
-        return Printed {
-            cursor: next,
-            first: index_edit(margins, stops, start),
-            second: put,
-        };
-    }
-    Printed {
-        cursor: next,
-        first: put,
-        second: Edit::Keep,
-    }
-}
-
-// By the parts of a core.
 fn print_word(core: Core, word: u16) -> Printed
     requires { Bounds core }
     ensures { result ≡ printing.print_word core word }
 {
-    print_at(
-        core.cursor,
-        core.margins,
-        core.rows,
-        core.modes,
-        stops_of(core),
-        word,
-    )
+    let place = print_place(core);
+    let put = put_edit(core, place, word);
+    let cursor = place.advance(right_stop(core), core.modes.autowrap);
+    if core.cursor.wrap {
+        let start = core.cursor.to_column(left_stop(core));
+        return Printed {
+            cursor,
+            first: index_edit(core, start),
+            second: put,
+        };
+    }
+    Printed {
+        cursor,
+        first: put,
+        second: Edit::Keep,
+    }
 }
 
 // The cursor and the edits are put into the core. (A function that calls both would be too long for the
