@@ -63,6 +63,7 @@ pub fn fresh_saved() -> Saved
     }
 }
 
+#[tactic(auto, unfolding(crate::specs::Fresh::fresh_core))]
 pub fn fresh_core(rows: u8) -> Core
     ensures { result ≡ fresh_core rows }
 {

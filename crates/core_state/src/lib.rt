@@ -48,6 +48,7 @@ pub struct Saved {
     pub shift: SingleShift,
 }
 
+// (No invariant: `feed` takes any state, and `FeedExact` in demands says which are answered as broken. So contracts ask for `Bounds`.)
 #[derive(Clone, Copy)]
 pub struct Core {
     pub rows: u8,

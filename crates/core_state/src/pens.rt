@@ -20,6 +20,7 @@ fn flag_bits(rendition: Rendition, protected: bool) -> u16
 }
 
 // The pen of a rendition, protection and sets. In a 94-sign set 20 is code 20 of set ASCII.
+// (Over these three, and not over a core: while a span runs, the rendition goes on beside the core that it began with.)
 pub fn pen_of(rendition: Rendition, protected: bool, sets: Sets) -> Pen
     ensures { result ≡ pen_of rendition protected sets }
 {

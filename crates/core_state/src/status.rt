@@ -24,6 +24,7 @@ fn in_line(column: u8, wrap: bool) -> Cursor
 }
 
 // What is saved of the line, as a page of one row has it.
+// (It and its inverse are no `From`, since the way back drops row and origin.)
 fn line_saved(saved: LineSaved) -> Saved
     ensures { result ≡ status.line_saved saved }
 {
@@ -52,6 +53,7 @@ fn saved_line(saved: Saved) -> LineSaved
 }
 
 // The line as a page of one row: margins and origin are set aside, the rest is shared.
+#[tactic(auto, unfolding(crate::specs::StatusLine::line_view))]
 pub fn line_view(core: Core, line: StatusLine) -> Core
     ensures { result ≡ status.line_view core line }
 {
@@ -69,6 +71,7 @@ pub fn line_view(core: Core, line: StatusLine) -> Core
 }
 
 // The page's core after an action on the line, which left the view so.
+#[tactic(auto, unfolding(crate::specs::StatusLine::page_behind))]
 pub fn page_behind(core: Core, view: Core) -> Core
     ensures { result ≡ status.page_behind core view }
 {

@@ -31,6 +31,7 @@ fn is_whole_screen(core: Core) -> bool
         & (!saved.wrap | (saved.column == 80))
 }
 
+#[tactic(auto, unfolding(crate::specs::Whole::whole_core))]
 pub fn is_whole(core: Core) -> bool
     ensures { result ≡ whole.whole_core core }
 {

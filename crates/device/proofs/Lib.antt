@@ -1,4 +1,3 @@
 pub mod TabLaws
 pub mod TabSearchLaws
-pub mod CursorLaws
 pub mod SendLaws

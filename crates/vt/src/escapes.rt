@@ -53,6 +53,7 @@ fn restore_cursor(core: Core) -> Decision
 // ---- ESC # 8 and ESC c
 
 // DECALN: every cell plain E, margins full, cursor 1,1.
+#[tactic(auto, unfolding(cells::specs::Cells::packed))]
 fn align_screen(mut core: Core) -> Decision
     ensures { result ≡ escapes.align_screen core }
 {

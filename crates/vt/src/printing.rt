@@ -110,6 +110,7 @@ fn printed_in(mut core: Core, printed: Printed) -> Decision
 
 // ---- a byte 20 to 7F or A0 to FF, and SUB
 
+#[tactic(auto, unfolding(crate::specs::Printing::printed, crate::specs::Printing::put))]
 pub fn print(core: Core, byte: u8) -> Decision
     requires { Bounds core }
     ensures { result ≡ printing.printed core byte }
@@ -123,6 +124,7 @@ pub fn print(core: Core, byte: u8) -> Decision
 }
 
 // SUB: code 1A of ASCII. It uses no set, and a pending shift stays.
+#[tactic(auto, unfolding(crate::specs::Printing::substituted, crate::specs::Printing::put))]
 pub fn substitute(core: Core) -> Decision
     requires { Bounds core }
     ensures { result ≡ printing.substituted core }
