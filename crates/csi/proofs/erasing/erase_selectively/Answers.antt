@@ -1,5 +1,0 @@
--- The range is the selected one.
-use Rattle.csi.proofs.erasing.erase_selectively.Goals as goal
-
-pub returns : goal.returns
-returns c = rw (c.one_edit.ensures, c.selected-range.ensures.0, c.selected-range.ensures.1)
