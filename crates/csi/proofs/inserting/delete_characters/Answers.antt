@@ -1,5 +1,0 @@
--- The edit is the definition's.
-use Rattle.csi.proofs.inserting.delete_characters.Goals as goal
-
-pub returns : goal.returns
-returns c = cc
