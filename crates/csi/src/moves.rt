@@ -11,8 +11,7 @@ use ground::numbers::{capped, on, or_one};
 pub fn cursor_up(mut core: Core, n: u16) -> Decision
     ensures { result ≡ sequences.cursor_up core n }
 {
-    let cursor = core.cursor;
-    core.cursor = cursor.up(n, top_stop(core));
+    core.cursor = core.cursor.up(n, top_stop(core));
     unedited(core)
 }
 
@@ -20,8 +19,7 @@ pub fn cursor_up(mut core: Core, n: u16) -> Decision
 pub fn cursor_down(mut core: Core, n: u16) -> Decision
     ensures { result ≡ sequences.cursor_down core n }
 {
-    let cursor = core.cursor;
-    core.cursor = cursor.down(n, bottom_stop(core));
+    core.cursor = core.cursor.down(n, bottom_stop(core));
     unedited(core)
 }
 
@@ -29,8 +27,7 @@ pub fn cursor_down(mut core: Core, n: u16) -> Decision
 pub fn cursor_right(mut core: Core, n: u16) -> Decision
     ensures { result ≡ sequences.cursor_right core n }
 {
-    let cursor = core.cursor;
-    core.cursor = cursor.right(n, right_stop(core));
+    core.cursor = core.cursor.right(n, right_stop(core));
     unedited(core)
 }
 
@@ -38,8 +35,7 @@ pub fn cursor_right(mut core: Core, n: u16) -> Decision
 pub fn cursor_left(mut core: Core, n: u16) -> Decision
     ensures { result ≡ sequences.cursor_left core n }
 {
-    let cursor = core.cursor;
-    core.cursor = cursor.left(n, left_stop(core));
+    core.cursor = core.cursor.left(n, left_stop(core));
     unedited(core)
 }
 
@@ -55,9 +51,8 @@ fn row_at(core: Core, row: u16) -> u8
 pub fn cursor_position(mut core: Core, row: u16, column: u16) -> Decision
     ensures { result ≡ sequences.cursor_position core row column }
 {
-    let cursor = core.cursor;
     let row = row_at(core, or_one(row));
     let column = capped(or_one(column), right_stop(core));
-    core.cursor = cursor.home(row, column);
+    core.cursor = core.cursor.home(row, column);
     unedited(core)
 }
