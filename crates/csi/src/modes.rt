@@ -1,5 +1,5 @@
 // Control sequences for tabs, modes, rendition, protection and margins, and the soft reset.
-ghost use Rattle.std.specs.Prelude.{◌≡◌, true, ◌||◌, if◌then◌else◌, nat_eq, nat_lt};
+ghost use Rattle.std.specs.Prelude.{◌≡◌, true, false, ◌||◌, if◌then◌else◌, nat_eq, nat_lt};
 ghost use Rattle.ground.specs.Folds.{folded};
 ghost use Rattle.parser.specs.Params.{param_list, numbers};
 ghost use Rattle.core_state.specs.Bounds.{Bounds};
@@ -8,11 +8,11 @@ ghost use Rattle.csi.specs.Sequences as sequences;
 
 use cells::Rendition;
 use core_state::effects::unedited;
-use core_state::fresh::{fresh_saved, plain_rendition};
+use core_state::fresh::{fresh_core, fresh_modes, plain_rendition};
 use core_state::geometry::home;
 use core_state::status::is_line;
 use core_state::{Core, Decision, Margins, Modes};
-use device::charsets::{Sets, SingleShift};
+use ground::numbers::capped;
 use parser::params::Params;
 
 // TBC: 0 the tab here, 3 all.
@@ -20,15 +20,10 @@ pub fn clear_tabs(mut core: Core, params: Params) -> Decision
     requires { Bounds core }
     ensures { result ≡ sequences.clear_tabs core params }
 {
-    let selector = params.get(0);
-    let tabs = core.tabs;
-    if selector == 0 {
-        core.tabs = tabs.clear(core.cursor.column);
-        return unedited(core);
-    }
-    if selector == 3 {
-        core.tabs = tabs.clear_all();
-        return unedited(core);
+    match params.get(0) {
+        0 => core.tabs = core.tabs.clear(core.cursor.column),
+        3 => core.tabs = core.tabs.clear_all(),
+        _ => {}
     }
     unedited(core)
 }
@@ -39,13 +34,10 @@ pub fn clear_tabs(mut core: Core, params: Params) -> Decision
 fn ansi_mode(mut core: Core, value: u16, on: bool) -> Core
     ensures { result ≡ sequences.ansi_mode on core value }
 {
-    if value == 4 {
-        core.modes.insert = on;
-        return core;
-    }
-    if value == 20 {
-        core.modes.newline = on;
-        return core;
+    match value {
+        4 => core.modes.insert = on,
+        20 => core.modes.newline = on,
+        _ => {}
     }
     core
 }
@@ -55,8 +47,7 @@ fn origin_mode(mut core: Core, on: bool) -> Core
     ensures { result ≡ sequences.origin_mode on core }
 {
     core.modes.origin = on;
-    let cursor = home(core);
-    core.cursor = cursor;
+    core.cursor = home(core);
     core
 }
 
@@ -74,58 +65,48 @@ fn page_origin_mode(core: Core, on: bool) -> Core
 fn dec_mode(mut core: Core, value: u16, on: bool) -> Core
     ensures { result ≡ sequences.dec_mode on core value }
 {
-    if value == 6 {
-        return page_origin_mode(core, on);
-    }
-    if value == 7 {
-        core.modes.autowrap = on;
-        return core;
-    }
-    if value == 25 {
-        core.modes.shown = on;
-        return core;
+    match value {
+        6 => return page_origin_mode(core, on),
+        7 => core.modes.autowrap = on,
+        25 => core.modes.shown = on,
+        _ => {}
     }
     core
 }
 
-// One value; private with ?.
-fn set_mode(core: Core, private: bool, value: u16, on: bool) -> Core
-    ensures { result ≡ sequences.mode_set private on core value }
+// SM, RM: all parameters in order.
+pub fn set_ansi_modes(core: Core, params: Params, on: bool) -> Decision
+    ensures { result ≡ sequences.modes_set false on core params }
 {
-    if private {
-        return dec_mode(core, value, on);
-    }
-    ansi_mode(core, value, on)
+    let values = &params.values[..params.count() as usize];
+    unedited(
+        values
+            .iter()
+            .fold(core, |core, value| ansi_mode(core, *value, on)),
+    )
 }
 
-// SM, RM: all parameters in order.
-pub fn set_modes(mut core: Core, private: bool, params: Params, on: bool) -> Decision
-    ensures { result ≡ sequences.modes_set private on core params }
+// The same with ?.
+pub fn set_dec_modes(core: Core, params: Params, on: bool) -> Decision
+    ensures { result ≡ sequences.modes_set true on core params }
 {
-    let count = params.count();
-    let mut i: u8 = 0;
-    while i < count {
-        core = set_mode(core, private, params.get(i), on);
-        i += 1;
-    }
-    unedited(core)
+    let values = &params.values[..params.count() as usize];
+    unedited(
+        values
+            .iter()
+            .fold(core, |core, value| dec_mode(core, *value, on)),
+    )
 }
 
 // ---- rendition and protection
 
 // One value of SGR.
+#[tactic(auto, unfolding(crate::specs::Sequences::rendered))]
 fn render(mut rendition: Rendition, value: u16) -> Rendition
     ensures { result ≡ sequences.rendered rendition value }
 {
     match value {
-        0 => {
-            return Rendition {
-                bold: false,
-                underline: false,
-                blink: false,
-                reverse: false,
-            };
-        }
+        0 => rendition = plain_rendition(),
         1 => rendition.bold = true,
         4 => rendition.underline = true,
         5 => rendition.blink = true,
@@ -139,16 +120,13 @@ fn render(mut rendition: Rendition, value: u16) -> Rendition
     rendition
 }
 
-// All parameters in order, read where they lie: a call of `get` for each would copy them all.
+// All parameters in order.
 pub fn rendition_after(mut rendition: Rendition, params: Params) -> Rendition
     ensures { result ≡ folded sequences.rendered rendition (numbers (param_list params)) }
 {
-    let count = params.count() as usize;
-    let values = params.values;
-    let mut i = 0;
-    while i < count {
-        rendition = render(rendition, values[i]);
-        i += 1;
+    let values = &params.values[..params.count() as usize];
+    for value in values {
+        rendition = render(rendition, *value);
     }
     rendition
 }
@@ -157,8 +135,7 @@ pub fn rendition_after(mut rendition: Rendition, params: Params) -> Rendition
 pub fn select_graphic_rendition(mut core: Core, params: Params) -> Decision
     ensures { result ≡ sequences.select_rendition core params }
 {
-    let rendition = core.rendition;
-    core.rendition = rendition_after(rendition, params);
+    core.rendition = rendition_after(core.rendition, params);
     unedited(core)
 }
 
@@ -166,14 +143,10 @@ pub fn select_graphic_rendition(mut core: Core, params: Params) -> Decision
 pub fn select_protection(mut core: Core, params: Params) -> Decision
     ensures { result ≡ sequences.select_protection core params }
 {
-    let selector = params.get(0);
-    if selector == 1 {
-        core.protected = true;
-        return unedited(core);
-    }
-    if selector <= 2 {
-        core.protected = false;
-        return unedited(core);
+    match params.get(0) {
+        1 => core.protected = true,
+        0 | 2 => core.protected = false,
+        _ => {}
     }
     unedited(core)
 }
@@ -185,12 +158,9 @@ fn requested_bottom(rows: u8, requested: u16) -> u8
     ensures { result ≡ (if nat_eq requested 0 || nat_lt rows requested then rows else requested) }
 {
     if requested == 0 {
-        return rows;
-    }
-    if (rows as u16) < requested {
         rows
     } else {
-        requested as u8
+        capped(requested, rows)
     }
 }
 
@@ -209,43 +179,27 @@ pub fn set_margins(mut core: Core, params: Params) -> Decision
 {
     let bottom = requested_bottom(core.rows, params.get(1));
     let top = params.n() as u8;
-    let margins = Margins { top, bottom };
-    core.margins = margins;
-    let cursor = home(core);
-    core.cursor = cursor;
+    core.margins = Margins { top, bottom };
+    core.cursor = home(core);
     unedited(core)
 }
 
 // ---- DECSTR: cursor, tabs, newline, reply width and extent stay
 
+#[tactic(auto, unfolding(crate::specs::Sequences::soft_reset, core_state::specs::Fresh::fresh_core))]
 pub fn soft_reset(core: Core) -> Core
     ensures { result ≡ sequences.soft_reset core }
 {
-    let cursor = core.cursor;
-    let tabs = core.tabs;
-    let parser = core.parser;
     Core {
-        rows: core.rows,
-        cursor,
-        margins: Margins {
-            top: 1,
-            bottom: core.rows,
-        },
-        tabs,
+        cursor: core.cursor,
+        tabs: core.tabs,
         modes: Modes {
-            insert: false,
             newline: core.modes.newline,
-            origin: false,
-            autowrap: false,
-            shown: true,
             eightbit: core.modes.eightbit,
             rectangle: core.modes.rectangle,
+            ..fresh_modes()
         },
-        rendition: plain_rendition(),
-        protected: false,
-        sets: Sets::fresh(),
-        shift: SingleShift::NoShift,
-        saved: fresh_saved(),
-        parser,
+        parser: core.parser,
+        ..fresh_core(core.rows)
     }
 }

@@ -10,7 +10,8 @@ use crate::erasing::{
 };
 use crate::inserting::{delete_characters, delete_lines, insert_characters, insert_lines};
 use crate::modes::{
-    clear_tabs, select_graphic_rendition, select_protection, set_margins, set_modes, soft_reset,
+    clear_tabs, select_graphic_rendition, select_protection, set_ansi_modes, set_dec_modes,
+    set_margins, soft_reset,
 };
 use crate::moves::{cursor_down, cursor_left, cursor_position, cursor_right, cursor_up};
 use core_state::effects::{one_edit, unedited};
@@ -39,8 +40,8 @@ fn plain_sequence(core: Core, params: Params, last: u8) -> Decision
         0x58 => erase_characters(core, params.n()), // ECH
         0x66 => cursor_position(core, params.get(0), params.get(1)), // HVP
         0x67 => clear_tabs(core, params), // TBC
-        0x68 => set_modes(core, false, params, true), // SM
-        0x6C => set_modes(core, false, params, false), // RM
+        0x68 => set_ansi_modes(core, params, true), // SM
+        0x6C => set_ansi_modes(core, params, false), // RM
         0x6D => select_graphic_rendition(core, params), // SGR
         0x72 => set_margins(core, params), // DECSTBM
         _ => unedited(core),
@@ -55,8 +56,8 @@ fn private_sequence(core: Core, params: Params, last: u8) -> Decision
     match last {
         0x4A => selective_erase_in_display(core, params.get(0)), // DECSED
         0x4B => selective_erase_in_line(core, params.get(0)), // DECSEL
-        0x68 => set_modes(core, true, params, true), // SM
-        0x6C => set_modes(core, true, params, false), // RM
+        0x68 => set_dec_modes(core, params, true), // SM
+        0x6C => set_dec_modes(core, params, false), // RM
         _ => unedited(core),
     }
 }
