@@ -1,12 +1,12 @@
 -- The attributes that DECCARA and DECRARA list (SCOPE 5.53 to 5.55), as one change of each.
-use Rattle.std.specs.Prelude.{ℕ, Bool, false, cond, not, ◌||◌, List, [], ◌∷◌, drop, ◌==◌, nat_lt}
+use Rattle.std.specs.Prelude.{ℕ, Bool, cond, not, List, [], ◌∷◌, drop, ◌==◌, nat_lt, Option, None, Some, unwrap_or}
+use Rattle.std.specs.Option.{option_or}
 use Rattle.ground.specs.Folds.{folded}
 use Rattle.cells.specs.declared.Setting.{Setting}
 use Rattle.cells.specs.declared.Setting.TheVariants.{Same, On, Off, Flipped}
 use Rattle.cells.specs.declared.Styling.{Styling}
 use Rattle.parser.specs.declared.params.Params.{Params}
 use Rattle.parser.specs.Params.{param_count, param_list, member}
-use Rattle.rectangles.specs.declared.attributes.Restyling.{Restyling}
 
 abbrev pub every : Setting → Styling
 every x = record { bold = x; underline = x; blink = x; reverse = x }
@@ -60,20 +60,22 @@ is_listed reversing v = cond (member v (22 ∷ 24 ∷ 25 ∷ 27 ∷ [])) (not re
 
 -- ---- a list of them
 
--- one value more
-abbrev pub one_more : Bool → Restyling → ℕ → Restyling
-one_more reversing m v = record {
-  styling = cond reversing (reverse_by m.styling v) (change_by m.styling v);
-  listed = m.listed || is_listed reversing v;
-}
+-- one value: nothing where it is not one of the function's
+abbrev pub one_value : Bool → Styling → ℕ → Option Styling
+one_value reversing s v = cond (is_listed reversing v) (Some (cond reversing (reverse_by s v) (change_by s v))) None
 
--- none yet
-abbrev pub unlisted : Restyling
-unlisted = record { styling = every Same; listed = false }
+-- what is listed so far: each attribute stays the same where nothing is
+abbrev pub listed_styling : Option Styling → Styling
+listed_styling m = unwrap_or m (every Same)
+
+-- one value more
+abbrev pub one_more : Bool → Option Styling → ℕ → Option Styling
+one_more reversing m v = option_or (one_value reversing (listed_styling m) v) m
 
 -- the parameters from the fifth on; none is one 0
 abbrev pub attributes : Params → List ℕ
 attributes q = cond (nat_lt 4 (param_count q)) (drop 4 (param_list q)) (0 ∷ [])
 
-unfoldable pub restyling_of : Bool → Params → Restyling
-restyling_of reversing q = folded (one_more reversing) unlisted (attributes q)
+-- nothing where no value is one of the function's
+unfoldable pub restyling_of : Bool → Params → Option Styling
+restyling_of reversing q = folded (one_more reversing) None (attributes q)

@@ -1,6 +1,6 @@
 -- The functions on rectangles (SCOPE 5.49 to 5.57): the edit of each, which is its one step. Only DECSACE changes the core; WrapDue.antt in dispatch says
 -- that wrap due stays.
-use Rattle.std.specs.Prelude.{ℕ, ◌+◌, ◌-◌, ◌*◌, min, Bool, true, false, cond, not, ◌&&◌, ◌||◌, ◌==◌, nat_le}
+use Rattle.std.specs.Prelude.{ℕ, ◌+◌, ◌-◌, ◌*◌, min, Bool, true, false, cond, not, ◌&&◌, ◌||◌, ◌==◌, nat_le, Option, None, Some}
 use Rattle.ground.specs.Tests.{between}
 use Rattle.cells.specs.declared.Styling.{Styling}
 use Rattle.cells.specs.declared.CellChange.{CellChange}
@@ -50,11 +50,14 @@ changed_stream a m = ChangeRange (80 * (a.top - 1) + (a.left - 1)) (80 * (a.bott
 abbrev pub restyled : Bool → Area → Styling → Edit
 restyled rectangle a s = cond rectangle (changed a (Restyle (styling_number s))) (changed_stream a (Restyle (styling_number s)))
 
+-- by what a list makes of the attributes, if anything
+abbrev pub if_styled : Bool → Area → Option Styling → Edit
+if_styled rectangle a (Some s) = restyled rectangle a s
+if_styled rectangle a None = Keep
+
 -- $ r (DECCARA), and reversing $ t (DECRARA); where no value is one of the function's, it is ignored
 abbrev pub change_attributes : Bool → Params → Area → Bool → Edit
-change_attributes rectangle q a reversing =
-    let m = restyling_of reversing q in
-    cond m.listed (restyled rectangle a m.styling) Keep
+change_attributes rectangle q a reversing = if_styled rectangle a (restyling_of reversing q)
 
 -- * x (DECSACE): 0 and 1 a stream, 2 a rectangle
 abbrev pub select_extent : Core → Params → Decision

@@ -8,7 +8,8 @@ use core_state::geometry::first_row;
 use ground::numbers::{capped, on};
 use parser::params::Params;
 
-const LAST: u8 = COLUMNS as u8;
+// The page's last column.
+pub const LAST: u8 = COLUMNS as u8;
 
 // Rows and columns count from 1, and the edges are inside.
 #[derive(Clone, Copy)]
@@ -39,6 +40,7 @@ pub fn column_edge(edge: u16, own: u8) -> u8
 }
 
 // The area of the four parameters from `at` on.
+#[tactic(auto, unfolding(crate::specs::Areas::area_at))]
 pub fn area_at(core: Core, params: Params, at: u8) -> Area
     requires { at ≤ 1 }
     ensures { result ≡ areas.area_at core params at }

@@ -1,28 +1,46 @@
 // The attributes that DECCARA and DECRARA list, as one change of each.
-ghost use Rattle.std.specs.Prelude.{◌≡◌};
+ghost use Rattle.std.specs.Prelude.{◌≡◌, Bool, ℕ, Option, true, false};
+ghost use Rattle.cells.specs.declared.Styling.{Styling};
 ghost use Rattle.rectangles.specs.Attributes as attributes;
 
 use cells::{Setting, Styling};
 use parser::params::Params;
 
-// What a list makes of a cell's attributes, and whether a value of it is one of the function's.
-#[derive(Clone, Copy)]
-pub struct Restyling {
-    pub styling: Styling,
-    pub listed: bool,
-}
+// Each attribute stays as it is.
+const SAME: Styling = Styling {
+    bold: Setting::Same,
+    underline: Setting::Same,
+    blink: Setting::Same,
+    reverse: Setting::Same,
+};
 
-// ---- one value
+// ---- one value: none where it is not one of the function's
 
-fn styled(bold: Setting, underline: Setting, blink: Setting, reverse: Setting) -> Styling
-    ensures { result ≡ record { bold = bold; underline = underline; blink = blink; reverse = reverse } }
+// DECCARA: the values of SGR.
+#[tactic(auto, unfolding(crate::specs::Attributes::change_by))]
+pub fn change_by(mut styling: Styling, value: u16) -> Option<Styling>
+    ensures { result ≡ attributes.one_value false styling value }
 {
-    Styling {
-        bold,
-        underline,
-        blink,
-        reverse,
+    match value {
+        0 => {
+            styling = Styling {
+                bold: Setting::Off,
+                underline: Setting::Off,
+                blink: Setting::Off,
+                reverse: Setting::Off,
+            };
+        }
+        1 => styling.bold = Setting::On,
+        4 => styling.underline = Setting::On,
+        5 => styling.blink = Setting::On,
+        7 => styling.reverse = Setting::On,
+        22 => styling.bold = Setting::Off,
+        24 => styling.underline = Setting::Off,
+        25 => styling.blink = Setting::Off,
+        27 => styling.reverse = Setting::Off,
+        _ => return None,
     }
+    Some(styling)
 }
 
 // A setting, and then a flip.
@@ -37,107 +55,52 @@ fn flipped(setting: Setting) -> Setting
     }
 }
 
-// DECCARA: the values of SGR.
-fn change_by(styling: Styling, value: u16) -> Styling
-    ensures { result ≡ attributes.change_by styling value }
-{
-    let on = Setting::On;
-    let off = Setting::Off;
-    let bold = styling.bold;
-    let underline = styling.underline;
-    let blink = styling.blink;
-    let reverse = styling.reverse;
-    match value {
-        0 => styled(off, off, off, off),
-        1 => styled(on, underline, blink, reverse),
-        4 => styled(bold, on, blink, reverse),
-        5 => styled(bold, underline, on, reverse),
-        7 => styled(bold, underline, blink, on),
-        22 => styled(off, underline, blink, reverse),
-        24 => styled(bold, off, blink, reverse),
-        25 => styled(bold, underline, off, reverse),
-        27 => styled(bold, underline, blink, off),
-        _ => styling,
-    }
-}
-
 // DECRARA.
-fn reverse_by(styling: Styling, value: u16) -> Styling
-    ensures { result ≡ attributes.reverse_by styling value }
-{
-    let bold = styling.bold;
-    let underline = styling.underline;
-    let blink = styling.blink;
-    let reverse = styling.reverse;
-    match value {
-        0 => styled(
-            flipped(bold),
-            flipped(underline),
-            flipped(blink),
-            flipped(reverse),
-        ),
-        1 => styled(flipped(bold), underline, blink, reverse),
-        4 => styled(bold, flipped(underline), blink, reverse),
-        5 => styled(bold, underline, flipped(blink), reverse),
-        7 => styled(bold, underline, blink, flipped(reverse)),
-        _ => styling,
-    }
-}
-
-// The values of both functions, and those of DECCARA alone.
-fn is_listed(reversing: bool, value: u16) -> bool
-    ensures { result ≡ attributes.is_listed reversing value }
+#[tactic(auto, unfolding(crate::specs::Attributes::reverse_by))]
+pub fn reverse_by(mut styling: Styling, value: u16) -> Option<Styling>
+    ensures { result ≡ attributes.one_value true styling value }
 {
     match value {
-        0 => true,
-        1 => true,
-        4 => true,
-        5 => true,
-        7 => true,
-        22 => !reversing,
-        24 => !reversing,
-        25 => !reversing,
-        27 => !reversing,
-        _ => false,
+        0 => {
+            styling = Styling {
+                bold: flipped(styling.bold),
+                underline: flipped(styling.underline),
+                blink: flipped(styling.blink),
+                reverse: flipped(styling.reverse),
+            };
+        }
+        1 => styling.bold = flipped(styling.bold),
+        4 => styling.underline = flipped(styling.underline),
+        5 => styling.blink = flipped(styling.blink),
+        7 => styling.reverse = flipped(styling.reverse),
+        _ => return None,
     }
-}
-
-fn one_more(reversing: bool, made: Restyling, value: u16) -> Restyling
-    ensures { result ≡ attributes.one_more reversing made value }
-{
-    let styling = made.styling;
-    let listed = made.listed | is_listed(reversing, value);
-    if reversing {
-        return Restyling {
-            styling: reverse_by(styling, value),
-            listed,
-        };
-    }
-    Restyling {
-        styling: change_by(styling, value),
-        listed,
-    }
+    Some(styling)
 }
 
 // ---- a list of them
 
-// The parameters from the fifth on, in order; none is one 0.
-pub fn restyling_of(reversing: bool, params: Params) -> Restyling
+// The parameters from the fifth on; none is one 0.
+fn attributes_of(params: &Params) -> &[u16]
+    ensures { result.now ≡ attributes.attributes params.now }
+{
+    let values = &params.values[..params.count() as usize];
+    if 4 < values.len() { &values[4..] } else { &[0] }
+}
+
+// What all of them make of a cell's attributes, in order, by the function of one value.
+#[tactic(auto, unfolding(crate::specs::Attributes::restyling_of))]
+pub fn restyling_of<F: Fn(Styling, u16) -> Option<Styling>>(
+    params: Params,
+    by: F,
+) -> Option<Styling>
+    ghost reversing: { Bool }
+    requires callable { F.IsAlwaysCallable by }
+    requires one { (s : Styling) (v : ℕ) (r : Option Styling) → F.post by s v r → r ≡ attributes.one_value reversing s v }
     ensures { result ≡ attributes.restyling_of reversing params }
 {
-    let same = Setting::Same;
-    let mut made = Restyling {
-        styling: styled(same, same, same, same),
-        listed: false,
-    };
-    let count = params.count();
-    if count <= 4 {
-        return one_more(reversing, made, 0);
-    }
-    let mut i: u8 = 4;
-    while i < count {
-        made = one_more(reversing, made, params.get(i));
-        i += 1;
-    }
-    made
+    attributes_of(&params).iter().fold(
+        None,
+        |made, value| by(made.unwrap_or(SAME), *value).or(made),
+    )
 }

@@ -1,19 +1,17 @@
 // The functions on rectangles. Each is one step, and of the core only DECSACE changes anything.
-ghost use Rattle.std.specs.Prelude.{◌≡◌};
+ghost use Rattle.std.specs.Prelude.{◌≡◌, if◌then◌else◌};
 ghost use Rattle.rectangles.specs.Functions as functions;
 
-use crate::areas::{Area, area_at, column_edge, is_taken, row_edge};
-use crate::attributes::restyling_of;
+use crate::areas::{Area, LAST, area_at, column_edge, is_taken, row_edge};
+use crate::attributes::{change_by, restyling_of, reverse_by};
 use cells::{BLANK, COLUMNS, CellChange, Styling};
 use core_state::effects::{unedited, without_shift};
 use core_state::glyphs::{glyph, skipped, used_set};
 use core_state::{Core, Decision};
 use device::charsets::SingleShift;
-use ground::numbers::{back, on, pick};
+use ground::numbers::{on, pick};
 use page::Edit;
 use parser::params::Params;
-
-const LAST: u8 = COLUMNS as u8;
 
 const WIDTH: u16 = COLUMNS as u16;
 
@@ -24,44 +22,42 @@ fn fill(area: Area, word: u16) -> Edit
     ensures { result ≡ functions.filled area word }
 {
     Edit::FillRectangle {
-        top: back(area.top, 1, 0),
+        top: area.top.saturating_sub(1),
         end: area.bottom,
-        left: back(area.left, 1, 0),
+        left: area.left.saturating_sub(1),
         right: area.right,
         word,
     }
 }
 
-// A code that is a byte of GL or GR.
-fn is_graphic(code: u16) -> bool
-    ensures { result ≡ functions.is_graphic code }
+// A byte of GL or GR.
+fn is_graphic(byte: u8) -> bool
+    ensures { result ≡ functions.is_graphic byte }
 {
-    ((0x20 <= code) & (code <= 0x7F)) | ((0xA0 <= code) & (code <= 0xFF))
+    matches!(byte, 0x20..=0x7F | 0xA0..=0xFF)
 }
 
-// One that printing puts into a cell, without a shift.
-fn is_printed(core: Core, code: u16) -> bool
-    ensures { result ≡ functions.is_printed core code }
+// The byte that a code is, if printing puts it into a cell, without a shift.
+fn printed(core: Core, code: u16) -> Option<u8>
+    ensures { result ≡ (if functions.is_printed core code then Some code else None) }
 {
-    if is_graphic(code) {
-        let sets = core.sets;
-        let byte = code as u8;
-        return !skipped(used_set(sets, SingleShift::NoShift, byte), byte);
+    let byte = u8::try_from(code).ok()?;
+    let skips = skipped(used_set(core.sets, SingleShift::NoShift, byte), byte);
+    if is_graphic(byte) & !skips {
+        Some(byte)
+    } else {
+        None
     }
-    false
 }
 
 // DECFRA: the cells are as printing would put them. A pending shift stays.
 fn fill_rectangle(core: Core, params: Params, area: Area) -> Edit
     ensures { result ≡ functions.fill_rectangle core params area }
 {
-    let code = params.get(0);
-    if is_printed(core, code) {
-        let unshifted = without_shift(core);
-        let word = glyph(unshifted, code as u8);
-        return fill(area, word);
+    match printed(core, params.get(0)) {
+        Some(byte) => fill(area, glyph(without_shift(core), byte)),
+        None => Edit::Keep,
     }
-    Edit::Keep
 }
 
 // ---- cells that change by what they hold
@@ -70,9 +66,9 @@ fn change(area: Area, change: CellChange) -> Edit
     ensures { result ≡ functions.changed area change }
 {
     Edit::ChangeRectangle {
-        top: back(area.top, 1, 0),
+        top: area.top.saturating_sub(1),
         end: area.bottom,
-        left: back(area.left, 1, 0),
+        left: area.left.saturating_sub(1),
         right: area.right,
         change,
     }
@@ -82,9 +78,9 @@ fn change(area: Area, change: CellChange) -> Edit
 fn change_stream(area: Area, change: CellChange) -> Edit
     ensures { result ≡ functions.changed_stream area change }
 {
-    let top = back(area.top, 1, 0);
-    let bottom = back(area.bottom, 1, 0);
-    let left = back(area.left, 1, 0);
+    let top = area.top.saturating_sub(1);
+    let bottom = area.bottom.saturating_sub(1);
+    let left = area.left.saturating_sub(1);
     Edit::ChangeRange {
         from: WIDTH * (top as u16) + left as u16,
         to: WIDTH * (bottom as u16) + area.right as u16,
@@ -105,30 +101,24 @@ fn restyle(rectangle: bool, area: Area, styling: Styling) -> Edit
     change_stream(area, restyle)
 }
 
-// DECCARA, and with `reversing` DECRARA. Where no value is one of the function's, it is ignored.
-fn change_attributes(rectangle: bool, params: Params, area: Area, reversing: bool) -> Edit
-    ensures { result ≡ functions.change_attributes rectangle params area reversing }
+// DECCARA and DECRARA, by what their list makes of the attributes. Where no value is one of the function's, it is ignored.
+fn change_attributes(rectangle: bool, area: Area, styling: Option<Styling>) -> Edit
+    ensures { result ≡ functions.if_styled rectangle area styling }
 {
-    let made = restyling_of(reversing, params);
-    if made.listed {
-        let styling = made.styling;
-        return restyle(rectangle, area, styling);
+    match styling {
+        Some(styling) => restyle(rectangle, area, styling),
+        None => Edit::Keep,
     }
-    Edit::Keep
 }
 
 // DECSACE: 0 and 1 stream, 2 rectangle.
 pub fn select_extent(mut core: Core, params: Params) -> Decision
     ensures { result ≡ functions.select_extent core params }
 {
-    let selector = params.get(0);
-    if selector <= 1 {
-        core.modes.rectangle = false;
-        return unedited(core);
-    }
-    if selector == 2 {
-        core.modes.rectangle = true;
-        return unedited(core);
+    match params.get(0) {
+        0 | 1 => core.modes.rectangle = false,
+        2 => core.modes.rectangle = true,
+        _ => {}
     }
     unedited(core)
 }
@@ -139,15 +129,15 @@ pub fn select_extent(mut core: Core, params: Params) -> Decision
 fn copy(rows: u8, area: Area, top: u8, left: u8) -> Edit
     ensures { result ≡ functions.copied rows area top left }
 {
-    let down = back(area.bottom, area.top as u16, 0);
-    let across = back(area.right, area.left as u16, 0);
+    let down = area.bottom.saturating_sub(area.top);
+    let across = area.right.saturating_sub(area.left);
     Edit::CopyRectangle {
-        top: back(top, 1, 0),
+        top: top.saturating_sub(1),
         end: on(top, down as u16, rows),
-        left: back(left, 1, 0),
+        left: left.saturating_sub(1),
         right: on(left, across as u16, LAST),
-        row: back(area.top, 1, 0),
-        column: back(area.left, 1, 0),
+        row: area.top.saturating_sub(1),
+        column: area.left.saturating_sub(1),
     }
 }
 
@@ -169,11 +159,10 @@ fn copy_rectangle(core: Core, params: Params, area: Area) -> Edit
 fn edit_in(core: Core, params: Params, area: Area, last: u8) -> Edit
     ensures { result ≡ functions.edit_in core params area last }
 {
-    // DECCARA, DECRARA
-    if (last == 0x72) | (last == 0x74) {
-        return change_attributes(core.modes.rectangle, params, area, last == 0x74);
-    }
+    let rectangle = core.modes.rectangle;
     match last {
+        0x72 => change_attributes(rectangle, area, restyling_of(params, change_by)), // DECCARA
+        0x74 => change_attributes(rectangle, area, restyling_of(params, reverse_by)), // DECRARA
         0x76 => copy_rectangle(core, params, area), // DECCRA
         0x78 => fill_rectangle(core, params, area), // DECFRA
         0x7A => fill(area, BLANK), // DECERA

@@ -1,5 +1,5 @@
 -- The functions on rectangles keep a core whole, and their edits stay on the page.
-use Rattle.std.proofs.Common.{◌≡◌, ℕ, ◌+◌, ◌-◌, ◌*◌, ◌≤◌, min, Bool, true, false, cond, ◌&&◌, eqb, leb, refl, arith, leb-true}
+use Rattle.std.proofs.Common.{◌≡◌, ℕ, ◌+◌, ◌-◌, ◌*◌, ◌≤◌, min, Bool, true, false, Some, None, cond, ◌&&◌, eqb, leb, refl, arith, leb-true}
 use borrow.Author.Tests.{eqb-false}
 use Rattle.page.specs.Edits.{RectangleFits, RangeFits, Within}
 use Rattle.parser.specs.declared.params.Params.{Params}
@@ -10,7 +10,7 @@ use Rattle.core_state.specs.Effects.{one_edit}
 use Rattle.rectangles.specs.declared.areas.Area.{Area}
 use Rattle.rectangles.specs.Areas.{row_edge, column_edge, area_at, is_taken}
 use Rattle.rectangles.specs.Attributes.{restyling_of}
-use Rattle.rectangles.specs.Functions.{is_printed, change_attributes, copy_rectangle, rectangle_edit, select_extent}
+use Rattle.rectangles.specs.Functions.{is_printed, if_styled, change_attributes, copy_rectangle, rectangle_edit, select_extent}
 use Rattle.ground.proofs.TestLaws.{either, and_left, and_right}
 use Rattle.wholeness.proofs.Decisions.{Good, good-kept, good-either}
 
@@ -87,7 +87,7 @@ module _ (c : Core) (p : Parts c) where
       (λ e.
       let fits = rectangle-fits q i e in
       let styles : (r : Bool) → W (change_attributes c.modes.rectangle q a r) = λ r.
-      either W (restyling_of r q).listed (λ _. either W c.modes.rectangle (λ _. fits) (λ _. stream-fits q i e)) (λ _. tt) in
+      elim (restyling_of r q) as (λ o. W (if_styled c.modes.rectangle a o)) [ Some s ↦ either W c.modes.rectangle (λ _. fits) (λ _. stream-fits q i e) | None ↦ tt ] in
       let copies : W (copy_rectangle c q a) =
       either W (leb (param q 4) 1 && leb (param q 7) 1)
       (λ _. copy-fits q i e (row_edge c (param q 5) 1) (column_edge (param q 6) 1) (row-edge (param q 5) 1 first-row) (column-edge (param q 6) 1 first-column))

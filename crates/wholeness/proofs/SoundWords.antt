@@ -1,6 +1,6 @@
 -- The words that a byte's edits bring in are printable: a character's code is a sign of its set, SUB's is 1A, and what else enters is
 -- blank or E.
-use Rattle.std.proofs.Common.{◌≡◌, ℕ, ◌%◌, ◌<◌, ◌≤◌, Bool, true, false, cond, not, ◌&&◌, ◌||◌, eqb, ltb, leb, refl, ap, arith, eqb-true, le-leb, leb-false, leb-true}
+use Rattle.std.proofs.Common.{◌≡◌, ℕ, ◌%◌, ◌<◌, ◌≤◌, Bool, true, false, Some, None, cond, not, ◌&&◌, ◌||◌, eqb, ltb, leb, refl, ap, arith, eqb-true, le-leb, leb-false, leb-true}
 use borrow.Author.Tests.{eqb-false, not-true}
 use Rattle.cells.specs.declared.CharSet.{CharSet}
 use Rattle.cells.specs.declared.CharSet.TheVariants.{Ascii, SpecialGraphics, Supplemental, Latin1}
@@ -32,7 +32,7 @@ use Rattle.core_state.specs.Glyphs.{used_set, skipped, shown_set, cell_word, gly
 use Rattle.rectangles.specs.declared.areas.Area.{Area}
 use Rattle.rectangles.specs.Areas.{area_at, is_taken}
 use Rattle.rectangles.specs.Attributes.{restyling_of}
-use Rattle.rectangles.specs.Functions.{is_graphic, is_printed, fill_rectangle, change_attributes, copy_rectangle, rectangle_edit}
+use Rattle.rectangles.specs.Functions.{is_graphic, is_printed, fill_rectangle, if_styled, change_attributes, copy_rectangle, rectangle_edit}
 use Rattle.rectangles.proofs.CodeLaws.{graphic-byte}
 use Rattle.vt.specs.Printing.{put_edit, line_start, next_line, printed_in, put, printed, substituted}
 use Rattle.vt.specs.Controls.{index_from, controlled, c1_controlled}
@@ -187,7 +187,7 @@ module _ (c : Core) where
       let a = area_at c q (cond (eqb last 0x78) 1 0) in
       let m = c.modes.rectangle in
       let styles : (r : Bool) → Enters (change_attributes m q a r) = λ r.
-      either Enters (restyling_of r q).listed (λ _. either Enters m (λ _. blank-printable) (λ _. blank-printable)) (λ _. blank-printable) in
+      elim (restyling_of r q) as (λ o. Enters (if_styled m a o)) [ Some s ↦ either Enters m (λ _. blank-printable) (λ _. blank-printable) | None ↦ blank-printable ] in
       let copies : Enters (copy_rectangle c q a) =
       either Enters (leb (param q 4) 1 && leb (param q 7) 1) (λ _. blank-printable) (λ _. blank-printable) in
       either Enters (is_taken a)
