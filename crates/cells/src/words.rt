@@ -6,25 +6,29 @@ ghost use Rattle.cells.specs.Cells.{setting_number, setting_of, styling_number, 
 use crate::{BLANK, Cell, CellChange, CharSet, Rendition, Setting, Styling};
 
 // Sets as numbers, and back. A number past the last counts as the last.
-pub fn set_number(set: CharSet) -> u8
-    ensures { result ≡ set_number set }
-{
-    match set {
-        CharSet::Ascii => 0,
-        CharSet::SpecialGraphics => 1,
-        CharSet::Supplemental => 2,
-        CharSet::Latin1 => 3,
+impl From<CharSet> for u8 {
+    ghost from_gives = { λ s n. n ≡ set_number s };
+
+    fn from(set: CharSet) -> u8 {
+        match set {
+            CharSet::Ascii => 0,
+            CharSet::SpecialGraphics => 1,
+            CharSet::Supplemental => 2,
+            CharSet::Latin1 => 3,
+        }
     }
 }
 
-pub fn set_of(number: u8) -> CharSet
-    ensures { result ≡ set_of number }
-{
-    match number {
-        0 => CharSet::Ascii,
-        1 => CharSet::SpecialGraphics,
-        2 => CharSet::Supplemental,
-        _ => CharSet::Latin1,
+impl From<u8> for CharSet {
+    ghost from_gives = { λ n s. s ≡ set_of n };
+
+    fn from(number: u8) -> CharSet {
+        match number {
+            0 => CharSet::Ascii,
+            1 => CharSet::SpecialGraphics,
+            2 => CharSet::Supplemental,
+            _ => CharSet::Latin1,
+        }
     }
 }
 
@@ -49,7 +53,7 @@ pub fn pack(cell: Cell) -> u16
 {
     let code = cell.code % 128;
     code as u16
-        + 128 * set_number(cell.set) as u16
+        + 128 * u8::from(cell.set) as u16
         + 512 * rendition_bits(cell.rendition)
         + 8192 * u16::from(cell.protected)
 }
@@ -65,7 +69,7 @@ pub fn unpack(word: u16) -> Cell
         reverse: flag_of(word / 4096),
     };
     let number = word / 128 % 4;
-    let set = set_of(number as u8);
+    let set = CharSet::from(number as u8);
     let code = word % 128;
     Cell {
         code: code as u8,

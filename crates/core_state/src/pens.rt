@@ -3,7 +3,7 @@ ghost use Rattle.std.specs.Prelude.{◌≡◌, ◌<◌};
 ghost use Rattle.core_state.specs.Pens.{flag_bits, pen_of};
 
 use cells::runs::Pen;
-use cells::words::{pack, set_number};
+use cells::words::pack;
 use cells::{Cell, CharSet, Rendition};
 use device::charsets::{Sets, SingleShift, has_96};
 
@@ -27,8 +27,8 @@ pub fn pen_of(rendition: Rendition, protected: bool, sets: Sets) -> Pen
     let flags = flag_bits(rendition, protected);
     let gl = sets.left_set(SingleShift::NoShift);
     let gr = sets.right_set();
-    let left = flags + 128 * set_number(gl) as u16;
-    let right = flags + 128 * set_number(gr) as u16;
+    let left = flags + 128 * u8::from(gl) as u16;
+    let right = flags + 128 * u8::from(gr) as u16;
     let space = if has_96(gl) { left } else { flags };
     let low = if space == left { 0x20 } else { 0x21 };
     Pen {

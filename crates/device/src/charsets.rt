@@ -5,7 +5,7 @@ ghost use Rattle.device.specs.Charsets.{register_number, register_of, shift_numb
 
 use cells::CharSet;
 
-#[derive(Clone, Copy)]
+#[derive(Clone, Copy, PartialEq, Eq, Debug)]
 pub enum Register {
     G0,
     G1,
@@ -14,7 +14,7 @@ pub enum Register {
 }
 
 // A pending single shift.
-#[derive(Clone, Copy)]
+#[derive(Clone, Copy, PartialEq, Eq, Debug)]
 pub enum SingleShift {
     NoShift,
     Ss2,
@@ -33,45 +33,53 @@ pub struct Sets {
 
 // ---- registers and shifts as numbers, and back; a number past the last counts as the last
 
-pub fn register_number(register: Register) -> u8
-    ensures { result ≡ register_number register }
-{
-    match register {
-        Register::G0 => 0,
-        Register::G1 => 1,
-        Register::G2 => 2,
-        Register::G3 => 3,
+impl From<Register> for u8 {
+    ghost from_gives = { λ r n. n ≡ register_number r };
+
+    fn from(register: Register) -> u8 {
+        match register {
+            Register::G0 => 0,
+            Register::G1 => 1,
+            Register::G2 => 2,
+            Register::G3 => 3,
+        }
     }
 }
 
-pub fn register_of(number: u8) -> Register
-    ensures { result ≡ register_of number }
-{
-    match number {
-        0 => Register::G0,
-        1 => Register::G1,
-        2 => Register::G2,
-        _ => Register::G3,
+impl From<u8> for Register {
+    ghost from_gives = { λ n r. r ≡ register_of n };
+
+    fn from(number: u8) -> Register {
+        match number {
+            0 => Register::G0,
+            1 => Register::G1,
+            2 => Register::G2,
+            _ => Register::G3,
+        }
     }
 }
 
-pub fn shift_number(shift: SingleShift) -> u8
-    ensures { result ≡ shift_number shift }
-{
-    match shift {
-        SingleShift::NoShift => 0,
-        SingleShift::Ss2 => 1,
-        SingleShift::Ss3 => 2,
+impl From<SingleShift> for u8 {
+    ghost from_gives = { λ s n. n ≡ shift_number s };
+
+    fn from(shift: SingleShift) -> u8 {
+        match shift {
+            SingleShift::NoShift => 0,
+            SingleShift::Ss2 => 1,
+            SingleShift::Ss3 => 2,
+        }
     }
 }
 
-pub fn shift_of(number: u8) -> SingleShift
-    ensures { result ≡ shift_of number }
-{
-    match number {
-        0 => SingleShift::NoShift,
-        1 => SingleShift::Ss2,
-        _ => SingleShift::Ss3,
+impl From<u8> for SingleShift {
+    ghost from_gives = { λ n s. s ≡ shift_of n };
+
+    fn from(number: u8) -> SingleShift {
+        match number {
+            0 => SingleShift::NoShift,
+            1 => SingleShift::Ss2,
+            _ => SingleShift::Ss3,
+        }
     }
 }
 
@@ -81,12 +89,7 @@ pub fn shift_of(number: u8) -> SingleShift
 pub fn has_96(set: CharSet) -> bool
     ensures { result ≡ has96 set }
 {
-    match set {
-        CharSet::Ascii => false,
-        CharSet::SpecialGraphics => false,
-        CharSet::Supplemental => false,
-        CharSet::Latin1 => true,
-    }
+    set == CharSet::Latin1
 }
 
 impl Sets {

@@ -11,7 +11,7 @@ use ground::tests::between;
 use parser::families::{is_joined, joined_mark};
 use parser::params::{JOINED, Params, appended, opened};
 use parser::parser::Parser;
-use parser::phases::{CSI_ENTRY, ESCAPE, Phase, is_string, phase_number, takes_parameters};
+use parser::phases::{Phase, is_string, takes_parameters};
 use parser::rules::opens_string;
 
 // The parser after such bytes, and the place of the next byte.
@@ -56,7 +56,7 @@ fn after_csi(input: &[u8], from: usize) -> usize
 fn gathers(phase: Phase, byte: u8) -> bool
     ensures { result ≡ gathers phase byte }
 {
-    between(0x30, byte, 0x3B) | (between(0x3C, byte, 0x3F) & (phase_number(phase) == CSI_ENTRY))
+    between(0x30, byte, 0x3B) | (between(0x3C, byte, 0x3F) & (phase == Phase::CsiEntry))
 }
 
 fn gathers_at(phase: Phase, input: &[u8], at: usize) -> bool
@@ -146,7 +146,7 @@ fn opens(phase: Phase, byte: u8) -> bool
     ensures { result ≡ opens phase byte }
 {
     if byte < 0x80 {
-        (phase_number(phase) == ESCAPE) & opens_string(byte + 0x40)
+        (phase == Phase::Escape) & opens_string(byte + 0x40)
     } else {
         opens_string(byte)
     }

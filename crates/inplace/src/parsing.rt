@@ -7,10 +7,9 @@ ghost use Rattle.inplace.specs.InPlace.{steers_by, steers_in_place, FedInPlace};
 
 use ground::tests::between;
 use parser::parser::Parser;
-use parser::phases::{ESCAPE, Phase, phase_number, phase_of, takes_parameters};
-use record::Terminal;
-use record::from_state::parser_record;
+use parser::phases::{Phase, takes_parameters};
 use record::to_state::parser_of;
+use record::{ParserRecord, Terminal};
 
 const ESC: u8 = 0x1B;
 
@@ -20,13 +19,11 @@ const BRACKET: u8 = 0x5B;
 fn steers_by(phase: Phase, byte: u8) -> bool
     ensures { result ≡ steers_by phase byte }
 {
-    if byte == ESC {
-        return true;
+    match byte {
+        ESC => true,
+        BRACKET => phase == Phase::Escape,
+        _ => takes_parameters(phase) & (between(0x30, byte, 0x39) | (byte == 0x3B)),
     }
-    if byte == BRACKET {
-        return phase_number(phase) == ESCAPE;
-    }
-    takes_parameters(phase) & (between(0x30, byte, 0x39) | (byte == 0x3B))
 }
 
 pub fn steers(terminal: Terminal, input: &[u8]) -> bool
@@ -35,22 +32,18 @@ pub fn steers(terminal: Terminal, input: &[u8]) -> bool
     if input.len() != 1 {
         return false;
     }
-    let parser = terminal.parser;
-    steers_by(phase_of(parser.phase), input[0])
+    steers_by(Phase::from(terminal.parser.phase), input[0])
 }
 
 fn next_parser(parser: Parser, byte: u8) -> Parser
     requires { steers_by parser.phase byte ≡ true }
     ensures { Skipped parser (byte ∷ []) 0 (record { parser = result; next = 1 }) }
 {
-    if byte == ESC {
-        return Parser::cleared(Phase::Escape);
+    match byte {
+        ESC => Parser::cleared(Phase::Escape),
+        BRACKET => Parser::cleared(Phase::CsiEntry),
+        _ => parser.with_params(Phase::CsiParam, parser.mark, parser.params.take(byte)),
     }
-    if byte == BRACKET {
-        return Parser::cleared(Phase::CsiEntry);
-    }
-    let params = parser.params;
-    parser.with_params(Phase::CsiParam, parser.mark, params.take(byte))
 }
 
 // The record after it: that is all that a feeding does, and page, line and reply buffer stay.
@@ -58,13 +51,11 @@ pub fn steered(mut terminal: Terminal, input: &[u8]) -> Terminal
     requires { (plain terminal ≡ true) × (steers_in_place terminal input.now ≡ true) }
     ensures { (p : List ℕ) → length p ≡ 80 * terminal.rows → FedInPlace terminal p input.now result p }
 {
-    let unused = [0u8; 5];
     let values = terminal.values;
     let parser = next_parser(parser_of(terminal.parser, values), input[0]);
-    let params = parser.params;
-    let values = params.values;
-    terminal.parser = parser_record(parser);
+    let values = parser.params.values;
+    terminal.parser = ParserRecord::from(parser);
     terminal.values = values;
-    terminal.unused = unused;
+    terminal.unused = [0u8; 5];
     terminal
 }

@@ -3,7 +3,7 @@ ghost use Rattle.std.specs.Prelude.{◌≡◌};
 ghost use Rattle.parser.specs.Phases as phases;
 
 // Where the parser stands. The phase tells how many of the intermediates count.
-#[derive(Clone, Copy)]
+#[derive(Clone, Copy, PartialEq, Eq, Debug)]
 pub enum Phase {
     Ground,
     Escape,
@@ -51,62 +51,44 @@ pub struct Transition {
 
 // ---- numbers
 
-pub const GROUND: u8 = 0;
+impl From<Phase> for u8 {
+    ghost from_gives = { λ p n. n ≡ phases.phase_number p };
 
-pub const ESCAPE: u8 = 1;
-
-pub const ESCAPE_ONE: u8 = 2;
-
-pub const ESCAPE_TWO: u8 = 3;
-
-pub const ESCAPE_IGNORE: u8 = 4;
-
-pub const CSI_ENTRY: u8 = 5;
-
-pub const CSI_PARAM: u8 = 6;
-
-pub const CSI_ONE: u8 = 7;
-
-pub const CSI_TWO: u8 = 8;
-
-pub const CSI_IGNORE: u8 = 9;
-
-pub const STRING_TEXT: u8 = 10;
-
-pub fn phase_number(phase: Phase) -> u8
-    ensures { result ≡ phases.phase_number phase }
-{
-    match phase {
-        Phase::Ground => GROUND,
-        Phase::Escape => ESCAPE,
-        Phase::EscapeOne => ESCAPE_ONE,
-        Phase::EscapeTwo => ESCAPE_TWO,
-        Phase::EscapeIgnore => ESCAPE_IGNORE,
-        Phase::CsiEntry => CSI_ENTRY,
-        Phase::CsiParam => CSI_PARAM,
-        Phase::CsiOne => CSI_ONE,
-        Phase::CsiTwo => CSI_TWO,
-        Phase::CsiIgnore => CSI_IGNORE,
-        Phase::StringText => STRING_TEXT,
+    fn from(phase: Phase) -> u8 {
+        match phase {
+            Phase::Ground => 0,
+            Phase::Escape => 1,
+            Phase::EscapeOne => 2,
+            Phase::EscapeTwo => 3,
+            Phase::EscapeIgnore => 4,
+            Phase::CsiEntry => 5,
+            Phase::CsiParam => 6,
+            Phase::CsiOne => 7,
+            Phase::CsiTwo => 8,
+            Phase::CsiIgnore => 9,
+            Phase::StringText => 10,
+        }
     }
 }
 
 // A number past the last counts as the last.
-pub fn phase_of(number: u8) -> Phase
-    ensures { result ≡ phases.phase_of number }
-{
-    match number {
-        GROUND => Phase::Ground,
-        ESCAPE => Phase::Escape,
-        ESCAPE_ONE => Phase::EscapeOne,
-        ESCAPE_TWO => Phase::EscapeTwo,
-        ESCAPE_IGNORE => Phase::EscapeIgnore,
-        CSI_ENTRY => Phase::CsiEntry,
-        CSI_PARAM => Phase::CsiParam,
-        CSI_ONE => Phase::CsiOne,
-        CSI_TWO => Phase::CsiTwo,
-        CSI_IGNORE => Phase::CsiIgnore,
-        _ => Phase::StringText,
+impl From<u8> for Phase {
+    ghost from_gives = { λ n p. p ≡ phases.phase_of n };
+
+    fn from(number: u8) -> Phase {
+        match number {
+            0 => Phase::Ground,
+            1 => Phase::Escape,
+            2 => Phase::EscapeOne,
+            3 => Phase::EscapeTwo,
+            4 => Phase::EscapeIgnore,
+            5 => Phase::CsiEntry,
+            6 => Phase::CsiParam,
+            7 => Phase::CsiOne,
+            8 => Phase::CsiTwo,
+            9 => Phase::CsiIgnore,
+            _ => Phase::StringText,
+        }
     }
 }
 
@@ -115,33 +97,29 @@ pub fn phase_of(number: u8) -> Phase
 pub fn is_ground(phase: Phase) -> bool
     ensures { result ≡ phases.is_ground phase }
 {
-    phase_number(phase) == GROUND
+    phase == Phase::Ground
 }
 
 pub fn is_string(phase: Phase) -> bool
     ensures { result ≡ phases.is_string phase }
 {
-    phase_number(phase) == STRING_TEXT
+    phase == Phase::StringText
 }
 
 // Where parameters are read.
 pub fn takes_parameters(phase: Phase) -> bool
     ensures { result ≡ phases.takes_parameters phase }
 {
-    let number = phase_number(phase);
-    (number == CSI_ENTRY) | (number == CSI_PARAM)
+    matches!(phase, Phase::CsiEntry | Phase::CsiParam)
 }
 
 // How many intermediates were collected.
 pub fn intermediates(phase: Phase) -> u8
     ensures { result ≡ phases.intermediates phase }
 {
-    let number = phase_number(phase);
-    if (number == ESCAPE_ONE) | (number == CSI_ONE) {
-        return 1;
+    match phase {
+        Phase::EscapeOne | Phase::CsiOne => 1,
+        Phase::EscapeTwo | Phase::CsiTwo => 2,
+        _ => 0,
     }
-    if (number == ESCAPE_TWO) | (number == CSI_TWO) {
-        return 2;
-    }
-    0
 }

@@ -2,10 +2,7 @@
 ghost use Rattle.std.specs.Prelude.{◌≡◌, cond, ◌<◌, ltb};
 ghost use Rattle.parser.specs.Parser as parsing;
 
-use crate::phases::{
-    CSI_ENTRY, CSI_IGNORE, CSI_ONE, CSI_PARAM, CSI_TWO, ESCAPE, ESCAPE_IGNORE, ESCAPE_ONE,
-    ESCAPE_TWO, Op, Phase, Transition, is_ground, is_string, phase_number,
-};
+use crate::phases::{Op, Phase, Transition, is_ground, is_string};
 use ground::tests::between;
 
 fn to(next: Phase, op: Op) -> Transition
@@ -91,17 +88,17 @@ pub fn sequence_rule(phase: Phase, x: u8) -> Transition
     let dispatch = to(Phase::Ground, Op::EscDispatch);
     let ends = to(Phase::Ground, Op::Ignore);
     let ignored = to(Phase::CsiIgnore, Op::Ignore);
-    match phase_number(phase) {
-        ESCAPE => escape_rule(x),
-        ESCAPE_ONE => below(x, 0x30, to(Phase::EscapeTwo, Op::Collect), dispatch),
-        ESCAPE_TWO => below(x, 0x30, to(Phase::EscapeIgnore, Op::Ignore), dispatch),
-        ESCAPE_IGNORE => below(x, 0x30, to(Phase::EscapeIgnore, Op::Ignore), ends),
-        CSI_ENTRY => parameter_rule(x, to(Phase::CsiParam, Op::Mark)),
-        CSI_PARAM => parameter_rule(x, ignored),
-        CSI_ONE => intermediate_rule(x, to(Phase::CsiTwo, Op::Collect)),
-        CSI_TWO => intermediate_rule(x, ignored),
-        CSI_IGNORE => below(x, 0x40, ignored, ends),
-        _ => to(phase, Op::Ignore),
+    match phase {
+        Phase::Escape => escape_rule(x),
+        Phase::EscapeOne => below(x, 0x30, to(Phase::EscapeTwo, Op::Collect), dispatch),
+        Phase::EscapeTwo => below(x, 0x30, to(Phase::EscapeIgnore, Op::Ignore), dispatch),
+        Phase::EscapeIgnore => below(x, 0x30, to(Phase::EscapeIgnore, Op::Ignore), ends),
+        Phase::CsiEntry => parameter_rule(x, to(Phase::CsiParam, Op::Mark)),
+        Phase::CsiParam => parameter_rule(x, ignored),
+        Phase::CsiOne => intermediate_rule(x, to(Phase::CsiTwo, Op::Collect)),
+        Phase::CsiTwo => intermediate_rule(x, ignored),
+        Phase::CsiIgnore => below(x, 0x40, ignored, ends),
+        Phase::Ground | Phase::StringText => to(phase, Op::Ignore),
     }
 }
 

@@ -6,7 +6,7 @@ use cells::marks::row_bit;
 use core_state::{Core, Displays, StatusLine};
 use parser::params::Params;
 use parser::parser::Parser;
-use parser::phases::phase_of;
+use parser::phases::Phase;
 use steps::{State, Tracked};
 
 // ---- one field
@@ -198,7 +198,7 @@ fn parser_of(bytes: [u8; 37]) -> Parser
         values: values_of(bytes),
     };
     Parser {
-        phase: phase_of(bytes[0] % 11),
+        phase: Phase::from(bytes[0] % 11),
         mark: bytes[1],
         first: bytes[2],
         second: bytes[3],

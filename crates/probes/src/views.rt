@@ -6,9 +6,8 @@ ghost use Rattle.probes.specs.Views as views;
 
 use crate::output::{put, put_bytes};
 use cells::Rendition;
-use cells::words::set_number;
 use core_state::{Core, Displays, LineSaved, Modes, Saved, StatusLine};
-use device::charsets::{Sets, register_number, shift_number};
+use device::charsets::Sets;
 use device::cursor::Cursor;
 use device::tabs::Tabs;
 
@@ -55,19 +54,13 @@ fn put_rendition(out: &mut [u8], at: usize, rendition: Rendition) -> usize
 fn put_sets(out: &mut [u8], at: usize, sets: Sets) -> usize
     ensures { PutAt out.old at (views.set_bytes sets) out.new result }
 {
-    let g0 = sets.g0;
-    let g1 = sets.g1;
-    let g2 = sets.g2;
-    let g3 = sets.g3;
-    let gl = sets.gl;
-    let gr = sets.gr;
     let numbers = [
-        set_number(g0),
-        set_number(g1),
-        set_number(g2),
-        set_number(g3),
-        register_number(gl),
-        register_number(gr),
+        u8::from(sets.g0),
+        u8::from(sets.g1),
+        u8::from(sets.g2),
+        u8::from(sets.g3),
+        u8::from(sets.gl),
+        u8::from(sets.gr),
     ];
     put_bytes(out, at, &numbers)
 }
@@ -75,13 +68,12 @@ fn put_sets(out: &mut [u8], at: usize, sets: Sets) -> usize
 fn put_saved(out: &mut [u8], at: usize, saved: Saved) -> usize
     ensures { PutAt out.old at (views.saved_bytes saved) out.new result }
 {
-    let shift = saved.shift;
     let rendition = put_cursor(out, at, saved.cursor);
     let origin = put_rendition(out, rendition, saved.rendition);
     let sets = put_flag(out, origin, saved.origin);
     let protection = put_sets(out, sets, saved.sets);
     let shifted = put_flag(out, protection, saved.protected);
-    put(out, shifted, shift_number(shift))
+    put(out, shifted, u8::from(saved.shift))
 }
 
 fn put_tabs(out: &mut [u8], at: usize, tabs: Tabs) -> usize
@@ -107,11 +99,10 @@ fn put_place(out: &mut [u8], at: usize, core: Core) -> usize
 fn put_writing(out: &mut [u8], at: usize, core: Core) -> usize
     ensures { PutAt out.old at (views.writing_bytes core) out.new result }
 {
-    let shift = core.shift;
     let protection = put_rendition(out, at, core.rendition);
     let sets = put_flag(out, protection, core.protected);
     let shifted = put_sets(out, sets, core.sets);
-    put(out, shifted, shift_number(shift))
+    put(out, shifted, u8::from(core.shift))
 }
 
 fn put_core(out: &mut [u8], at: usize, core: Core) -> usize
@@ -142,12 +133,11 @@ fn put_line(out: &mut [u8], at: usize, line: StatusLine) -> usize
     ensures { PutAt out.old at (views.line_bytes line) out.new result }
 {
     let saved = line.saved;
-    let shift = saved.shift;
     let rendition = put_line_place(out, at, line, saved);
     let sets = put_rendition(out, rendition, saved.rendition);
     let protection = put_sets(out, sets, saved.sets);
     let shifted = put_flag(out, protection, saved.protected);
-    put(out, shifted, shift_number(shift))
+    put(out, shifted, u8::from(saved.shift))
 }
 
 pub fn put_displays(out: &mut [u8], at: usize, displays: Displays) -> usize

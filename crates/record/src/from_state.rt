@@ -2,125 +2,128 @@
 ghost use Rattle.std.specs.Prelude.{◌≡◌};
 ghost use Rattle.record.specs.Record as records;
 
-use crate::numbers::flag_number;
 use crate::{
     CursorRecord, LineSavedRecord, ModesRecord, ParserRecord, RenditionRecord, SavedRecord,
     SetsRecord, StatusRecord, Terminal,
 };
 use cells::Rendition;
-use cells::words::set_number;
 use core_state::{LineSaved, Modes, Saved, StatusLine};
-use device::charsets::{Sets, register_number, shift_number};
+use device::charsets::Sets;
 use device::cursor::Cursor;
 use parser::parser::Parser;
-use parser::phases::phase_number;
 use steps::State;
 
-fn cursor_record(cursor: Cursor) -> CursorRecord
-    ensures { result ≡ records.cursor_record cursor }
-{
-    CursorRecord {
-        row: cursor.row,
-        column: cursor.column,
-        wrap: flag_number(cursor.wrap),
+impl From<Cursor> for CursorRecord {
+    ghost from_gives = { λ s r. r ≡ records.cursor_record s };
+
+    fn from(cursor: Cursor) -> CursorRecord {
+        CursorRecord {
+            row: cursor.row,
+            column: cursor.column,
+            wrap: u8::from(cursor.wrap),
+        }
     }
 }
 
-fn modes_record(modes: Modes) -> ModesRecord
-    ensures { result ≡ records.modes_record modes }
-{
-    ModesRecord {
-        insert: flag_number(modes.insert),
-        newline: flag_number(modes.newline),
-        origin: flag_number(modes.origin),
-        autowrap: flag_number(modes.autowrap),
-        shown: flag_number(modes.shown),
-        eightbit: flag_number(modes.eightbit),
-        rectangle: flag_number(modes.rectangle),
+impl From<Modes> for ModesRecord {
+    ghost from_gives = { λ s r. r ≡ records.modes_record s };
+
+    fn from(modes: Modes) -> ModesRecord {
+        ModesRecord {
+            insert: u8::from(modes.insert),
+            newline: u8::from(modes.newline),
+            origin: u8::from(modes.origin),
+            autowrap: u8::from(modes.autowrap),
+            shown: u8::from(modes.shown),
+            eightbit: u8::from(modes.eightbit),
+            rectangle: u8::from(modes.rectangle),
+        }
     }
 }
 
-fn rendition_record(rendition: Rendition) -> RenditionRecord
-    ensures { result ≡ records.rendition_record rendition }
-{
-    RenditionRecord {
-        bold: flag_number(rendition.bold),
-        underline: flag_number(rendition.underline),
-        blink: flag_number(rendition.blink),
-        reverse: flag_number(rendition.reverse),
+impl From<Rendition> for RenditionRecord {
+    ghost from_gives = { λ s r. r ≡ records.rendition_record s };
+
+    fn from(rendition: Rendition) -> RenditionRecord {
+        RenditionRecord {
+            bold: u8::from(rendition.bold),
+            underline: u8::from(rendition.underline),
+            blink: u8::from(rendition.blink),
+            reverse: u8::from(rendition.reverse),
+        }
     }
 }
 
-fn sets_record(sets: Sets) -> SetsRecord
-    ensures { result ≡ records.sets_record sets }
-{
-    let g0 = sets.g0;
-    let g1 = sets.g1;
-    let g2 = sets.g2;
-    let g3 = sets.g3;
-    let gl = sets.gl;
-    let gr = sets.gr;
-    SetsRecord {
-        g0: set_number(g0),
-        g1: set_number(g1),
-        g2: set_number(g2),
-        g3: set_number(g3),
-        gl: register_number(gl),
-        gr: register_number(gr),
+impl From<Sets> for SetsRecord {
+    ghost from_gives = { λ s r. r ≡ records.sets_record s };
+
+    fn from(sets: Sets) -> SetsRecord {
+        SetsRecord {
+            g0: u8::from(sets.g0),
+            g1: u8::from(sets.g1),
+            g2: u8::from(sets.g2),
+            g3: u8::from(sets.g3),
+            gl: u8::from(sets.gl),
+            gr: u8::from(sets.gr),
+        }
     }
 }
 
-fn saved_record(saved: Saved) -> SavedRecord
-    ensures { result ≡ records.saved_record saved }
-{
-    let shift = saved.shift;
-    SavedRecord {
-        cursor: cursor_record(saved.cursor),
-        rendition: rendition_record(saved.rendition),
-        origin: flag_number(saved.origin),
-        sets: sets_record(saved.sets),
-        protected: flag_number(saved.protected),
-        shift: shift_number(shift),
+impl From<Saved> for SavedRecord {
+    ghost from_gives = { λ s r. r ≡ records.saved_record s };
+
+    fn from(saved: Saved) -> SavedRecord {
+        SavedRecord {
+            cursor: CursorRecord::from(saved.cursor),
+            rendition: RenditionRecord::from(saved.rendition),
+            origin: u8::from(saved.origin),
+            sets: SetsRecord::from(saved.sets),
+            protected: u8::from(saved.protected),
+            shift: u8::from(saved.shift),
+        }
     }
 }
 
-pub fn parser_record(parser: Parser) -> ParserRecord
-    ensures { result ≡ records.parser_record parser }
-{
-    let phase = parser.phase;
-    let params = parser.params;
-    ParserRecord {
-        phase: phase_number(phase),
-        mark: parser.mark,
-        first: parser.first,
-        second: parser.second,
-        separators: params.separators,
+impl From<Parser> for ParserRecord {
+    ghost from_gives = { λ s r. r ≡ records.parser_record s };
+
+    fn from(parser: Parser) -> ParserRecord {
+        ParserRecord {
+            phase: u8::from(parser.phase),
+            mark: parser.mark,
+            first: parser.first,
+            second: parser.second,
+            separators: parser.params.separators,
+        }
     }
 }
 
-fn line_saved_record(saved: LineSaved) -> LineSavedRecord
-    ensures { result ≡ records.line_saved_record saved }
-{
-    let shift = saved.shift;
-    LineSavedRecord {
-        column: saved.column,
-        wrap: flag_number(saved.wrap),
-        rendition: rendition_record(saved.rendition),
-        sets: sets_record(saved.sets),
-        protected: flag_number(saved.protected),
-        shift: shift_number(shift),
+impl From<LineSaved> for LineSavedRecord {
+    ghost from_gives = { λ s r. r ≡ records.line_saved_record s };
+
+    fn from(saved: LineSaved) -> LineSavedRecord {
+        LineSavedRecord {
+            column: saved.column,
+            wrap: u8::from(saved.wrap),
+            rendition: RenditionRecord::from(saved.rendition),
+            sets: SetsRecord::from(saved.sets),
+            protected: u8::from(saved.protected),
+            shift: u8::from(saved.shift),
+        }
     }
 }
 
-fn status_record(line: StatusLine) -> StatusRecord
-    ensures { result ≡ records.status_record line }
-{
-    StatusRecord {
-        present: flag_number(line.present),
-        active: flag_number(line.active),
-        column: line.column,
-        wrap: flag_number(line.wrap),
-        saved: line_saved_record(line.saved),
+impl From<StatusLine> for StatusRecord {
+    ghost from_gives = { λ s r. r ≡ records.status_record s };
+
+    fn from(line: StatusLine) -> StatusRecord {
+        StatusRecord {
+            present: u8::from(line.present),
+            active: u8::from(line.active),
+            column: line.column,
+            wrap: u8::from(line.wrap),
+            saved: LineSavedRecord::from(line.saved),
+        }
     }
 }
 
@@ -128,30 +131,25 @@ pub fn record_of(state: State) -> Terminal
     ensures { result ≡ records.record_of state }
 {
     let core = state.displays.core;
-    let parser = core.parser;
-    let params = parser.params;
-    let values = params.values;
-    let stops = core.tabs;
-    let tabs = stops.flags;
-    let margins = core.margins;
-    let shift = core.shift;
+    let values = core.parser.params.values;
+    let tabs = core.tabs.flags;
     Terminal {
         changed: state.tracked.changed,
         values,
         tabs,
         rows: core.rows,
-        top: margins.top,
-        bottom: margins.bottom,
-        protected: flag_number(core.protected),
-        shift: shift_number(shift),
-        cursor: cursor_record(core.cursor),
-        modes: modes_record(core.modes),
-        rendition: rendition_record(core.rendition),
-        sets: sets_record(core.sets),
-        saved: saved_record(core.saved),
-        parser: parser_record(parser),
-        status: status_record(state.displays.line),
-        flag: flag_number(state.tracked.flag),
+        top: core.margins.top,
+        bottom: core.margins.bottom,
+        protected: u8::from(core.protected),
+        shift: u8::from(core.shift),
+        cursor: CursorRecord::from(core.cursor),
+        modes: ModesRecord::from(core.modes),
+        rendition: RenditionRecord::from(core.rendition),
+        sets: SetsRecord::from(core.sets),
+        saved: SavedRecord::from(core.saved),
+        parser: ParserRecord::from(core.parser),
+        status: StatusRecord::from(state.displays.line),
+        flag: u8::from(state.tracked.flag),
         unused: [0u8; 5],
     }
 }
@@ -160,9 +158,8 @@ pub fn record_of(state: State) -> Terminal
 pub fn emptied(mut terminal: Terminal) -> Terminal
     ensures { result ≡ records.emptied terminal }
 {
-    let unused = [0u8; 5];
     terminal.changed = 0;
     terminal.flag = 0;
-    terminal.unused = unused;
+    terminal.unused = [0u8; 5];
     terminal
 }

@@ -1,15 +1,9 @@
-// Flags as numbers, and back. Any number but 1 counts as off; a record with such a number is refused.
+// Flags as numbers.
 ghost use Rattle.std.specs.Prelude.{◌≡◌};
 ghost use Rattle.record.specs.Numbers as numbers;
 
 pub fn flag_number(on: bool) -> u8
     ensures { result ≡ numbers.flag_number on }
 {
-    if on { 1 } else { 0 }
-}
-
-pub fn is_on(number: u8) -> bool
-    ensures { result ≡ numbers.is_on number }
-{
-    number == 1
+    u8::from(on)
 }

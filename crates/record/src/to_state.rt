@@ -2,96 +2,104 @@
 ghost use Rattle.std.specs.Prelude.{◌≡◌};
 ghost use Rattle.record.specs.Record as records;
 
-use crate::numbers::is_on;
 use crate::{
     CursorRecord, LineSavedRecord, ModesRecord, ParserRecord, RenditionRecord, SavedRecord,
     SetsRecord, StatusRecord, Terminal,
 };
-use cells::Rendition;
-use cells::words::set_of;
+use cells::{CharSet, Rendition};
 use core_state::{Core, Displays, LineSaved, Margins, Modes, Saved, StatusLine};
-use device::charsets::{Sets, register_of, shift_of};
+use device::charsets::{Register, Sets, SingleShift};
 use device::cursor::Cursor;
 use device::tabs::Tabs;
+use ground::numbers::pick;
 use parser::params::Params;
 use parser::parser::Parser;
-use parser::phases::phase_of;
+use parser::phases::Phase;
 use steps::{State, Tracked};
 
-fn cursor_of(cursor: CursorRecord) -> Cursor
-    ensures { result ≡ records.cursor_of cursor }
-{
-    Cursor {
-        row: cursor.row,
-        column: cursor.column,
-        wrap: is_on(cursor.wrap),
+impl From<CursorRecord> for Cursor {
+    ghost from_gives = { λ r s. s ≡ records.cursor_of r };
+
+    fn from(cursor: CursorRecord) -> Cursor {
+        Cursor {
+            row: cursor.row,
+            column: cursor.column,
+            wrap: cursor.wrap == 1,
+        }
     }
 }
 
-fn modes_of(modes: ModesRecord) -> Modes
-    ensures { result ≡ records.modes_of modes }
-{
-    Modes {
-        insert: is_on(modes.insert),
-        newline: is_on(modes.newline),
-        origin: is_on(modes.origin),
-        autowrap: is_on(modes.autowrap),
-        shown: is_on(modes.shown),
-        eightbit: is_on(modes.eightbit),
-        rectangle: is_on(modes.rectangle),
+impl From<ModesRecord> for Modes {
+    ghost from_gives = { λ r s. s ≡ records.modes_of r };
+
+    fn from(modes: ModesRecord) -> Modes {
+        Modes {
+            insert: modes.insert == 1,
+            newline: modes.newline == 1,
+            origin: modes.origin == 1,
+            autowrap: modes.autowrap == 1,
+            shown: modes.shown == 1,
+            eightbit: modes.eightbit == 1,
+            rectangle: modes.rectangle == 1,
+        }
     }
 }
 
-fn rendition_of(rendition: RenditionRecord) -> Rendition
-    ensures { result ≡ records.rendition_of rendition }
-{
-    Rendition {
-        bold: is_on(rendition.bold),
-        underline: is_on(rendition.underline),
-        blink: is_on(rendition.blink),
-        reverse: is_on(rendition.reverse),
+impl From<RenditionRecord> for Rendition {
+    ghost from_gives = { λ r s. s ≡ records.rendition_of r };
+
+    fn from(rendition: RenditionRecord) -> Rendition {
+        Rendition {
+            bold: rendition.bold == 1,
+            underline: rendition.underline == 1,
+            blink: rendition.blink == 1,
+            reverse: rendition.reverse == 1,
+        }
     }
 }
 
-fn sets_of(sets: SetsRecord) -> Sets
-    ensures { result ≡ records.sets_of sets }
-{
-    Sets {
-        g0: set_of(sets.g0),
-        g1: set_of(sets.g1),
-        g2: set_of(sets.g2),
-        g3: set_of(sets.g3),
-        gl: register_of(sets.gl),
-        gr: register_of(sets.gr),
+impl From<SetsRecord> for Sets {
+    ghost from_gives = { λ r s. s ≡ records.sets_of r };
+
+    fn from(sets: SetsRecord) -> Sets {
+        Sets {
+            g0: CharSet::from(sets.g0),
+            g1: CharSet::from(sets.g1),
+            g2: CharSet::from(sets.g2),
+            g3: CharSet::from(sets.g3),
+            gl: Register::from(sets.gl),
+            gr: Register::from(sets.gr),
+        }
     }
 }
 
-fn saved_of(saved: SavedRecord) -> Saved
-    ensures { result ≡ records.saved_of saved }
-{
-    Saved {
-        cursor: cursor_of(saved.cursor),
-        rendition: rendition_of(saved.rendition),
-        origin: is_on(saved.origin),
-        sets: sets_of(saved.sets),
-        protected: is_on(saved.protected),
-        shift: shift_of(saved.shift),
+impl From<SavedRecord> for Saved {
+    ghost from_gives = { λ r s. s ≡ records.saved_of r };
+
+    fn from(saved: SavedRecord) -> Saved {
+        Saved {
+            cursor: Cursor::from(saved.cursor),
+            rendition: Rendition::from(saved.rendition),
+            origin: saved.origin == 1,
+            sets: Sets::from(saved.sets),
+            protected: saved.protected == 1,
+            shift: SingleShift::from(saved.shift),
+        }
     }
 }
 
 pub fn parser_of(parser: ParserRecord, values: [u16; 16]) -> Parser
     ensures { result ≡ records.parser_of parser values }
 {
-    let params = Params {
-        separators: parser.separators,
-        values,
-    };
     Parser {
-        phase: phase_of(parser.phase),
+        phase: Phase::from(parser.phase),
         mark: parser.mark,
         first: parser.first,
         second: parser.second,
-        params,
+        params: Params {
+            separators: parser.separators,
+            values,
+        },
     }
 }
 
@@ -101,48 +109,50 @@ fn core_of(terminal: Terminal, rows: u8) -> Core
 {
     let values = terminal.values;
     let flags = terminal.tabs;
-    let tabs = Tabs { flags };
-    let margins = Margins {
-        top: terminal.top,
-        bottom: terminal.bottom,
-    };
     Core {
         rows,
-        cursor: cursor_of(terminal.cursor),
-        margins,
-        tabs,
-        modes: modes_of(terminal.modes),
-        rendition: rendition_of(terminal.rendition),
-        protected: is_on(terminal.protected),
-        sets: sets_of(terminal.sets),
-        shift: shift_of(terminal.shift),
-        saved: saved_of(terminal.saved),
+        cursor: Cursor::from(terminal.cursor),
+        margins: Margins {
+            top: terminal.top,
+            bottom: terminal.bottom,
+        },
+        tabs: Tabs { flags },
+        modes: Modes::from(terminal.modes),
+        rendition: Rendition::from(terminal.rendition),
+        protected: terminal.protected == 1,
+        sets: Sets::from(terminal.sets),
+        shift: SingleShift::from(terminal.shift),
+        saved: Saved::from(terminal.saved),
         parser: parser_of(terminal.parser, values),
     }
 }
 
-fn line_saved_of(saved: LineSavedRecord) -> LineSaved
-    ensures { result ≡ records.line_saved_of saved }
-{
-    LineSaved {
-        column: saved.column,
-        wrap: is_on(saved.wrap),
-        rendition: rendition_of(saved.rendition),
-        sets: sets_of(saved.sets),
-        protected: is_on(saved.protected),
-        shift: shift_of(saved.shift),
+impl From<LineSavedRecord> for LineSaved {
+    ghost from_gives = { λ r s. s ≡ records.line_saved_of r };
+
+    fn from(saved: LineSavedRecord) -> LineSaved {
+        LineSaved {
+            column: saved.column,
+            wrap: saved.wrap == 1,
+            rendition: Rendition::from(saved.rendition),
+            sets: Sets::from(saved.sets),
+            protected: saved.protected == 1,
+            shift: SingleShift::from(saved.shift),
+        }
     }
 }
 
-fn line_of(status: StatusRecord) -> StatusLine
-    ensures { result ≡ records.line_of status }
-{
-    StatusLine {
-        present: is_on(status.present),
-        active: is_on(status.active),
-        column: status.column,
-        wrap: is_on(status.wrap),
-        saved: line_saved_of(status.saved),
+impl From<StatusRecord> for StatusLine {
+    ghost from_gives = { λ r s. s ≡ records.line_of r };
+
+    fn from(status: StatusRecord) -> StatusLine {
+        StatusLine {
+            present: status.present == 1,
+            active: status.active == 1,
+            column: status.column,
+            wrap: status.wrap == 1,
+            saved: LineSaved::from(status.saved),
+        }
     }
 }
 
@@ -178,13 +188,10 @@ fn sets_named(sets: SetsRecord) -> bool
 fn saved_named(saved: SavedRecord) -> bool
     ensures { result ≡ records.saved_named saved }
 {
-    let cursor = saved.cursor;
-    let rendition = rendition_named(saved.rendition);
-    let sets = sets_named(saved.sets);
-    (cursor.wrap < 2)
-        & rendition
+    (saved.cursor.wrap < 2)
+        & rendition_named(saved.rendition)
         & (saved.origin < 2)
-        & sets
+        & sets_named(saved.sets)
         & (saved.protected < 2)
         & (saved.shift < 3)
 }
@@ -192,37 +199,31 @@ fn saved_named(saved: SavedRecord) -> bool
 fn line_saved_named(saved: LineSavedRecord) -> bool
     ensures { result ≡ records.line_saved_named saved }
 {
-    let rendition = rendition_named(saved.rendition);
-    let sets = sets_named(saved.sets);
-    (saved.wrap < 2) & rendition & sets & (saved.protected < 2) & (saved.shift < 3)
+    (saved.wrap < 2)
+        & rendition_named(saved.rendition)
+        & sets_named(saved.sets)
+        & (saved.protected < 2)
+        & (saved.shift < 3)
 }
 
 fn status_named(status: StatusRecord) -> bool
     ensures { result ≡ records.status_named status }
 {
-    let saved = line_saved_named(status.saved);
-    (status.present < 2) & (status.active < 2) & (status.wrap < 2) & saved
+    (status.present < 2) & (status.active < 2) & (status.wrap < 2) & line_saved_named(status.saved)
 }
 
 pub fn named(terminal: Terminal) -> bool
     ensures { result ≡ records.named terminal }
 {
-    let cursor = terminal.cursor;
-    let parser = terminal.parser;
-    let modes = modes_named(terminal.modes);
-    let rendition = rendition_named(terminal.rendition);
-    let sets = sets_named(terminal.sets);
-    let saved = saved_named(terminal.saved);
-    let status = status_named(terminal.status);
     (terminal.protected < 2)
         & (terminal.shift < 3)
-        & (cursor.wrap < 2)
-        & (parser.phase < 11)
-        & modes
-        & rendition
-        & sets
-        & saved
-        & status
+        & (terminal.cursor.wrap < 2)
+        & (terminal.parser.phase < 11)
+        & modes_named(terminal.modes)
+        & rendition_named(terminal.rendition)
+        & sets_named(terminal.sets)
+        & saved_named(terminal.saved)
+        & status_named(terminal.status)
         & (terminal.flag < 2)
 }
 
@@ -230,24 +231,22 @@ pub fn named(terminal: Terminal) -> bool
 pub fn state_with(terminal: Terminal, rows: u8) -> State
     ensures { result ≡ records.state_with terminal rows }
 {
-    let core = core_of(terminal, rows);
-    let line = line_of(terminal.status);
-    let tracked = Tracked {
-        changed: terminal.changed,
-        flag: is_on(terminal.flag),
-    };
     State {
-        displays: Displays { core, line },
-        tracked,
+        displays: Displays {
+            core: core_of(terminal, rows),
+            line: StatusLine::from(terminal.status),
+        },
+        tracked: Tracked {
+            changed: terminal.changed,
+            flag: terminal.flag == 1,
+        },
     }
 }
 
-// A record with a number that names nothing is that of a terminal without rows, which is broken.
+// A record with a number that names nothing is that of a terminal without rows, which is broken: no error, since the theorems
+// of the calls speak of the state of any record.
 pub fn state_of(terminal: Terminal) -> State
     ensures { result ≡ records.state_of terminal }
 {
-    if !named(terminal) {
-        return state_with(terminal, 0);
-    }
-    state_with(terminal, terminal.rows)
+    state_with(terminal, pick(named(terminal), terminal.rows, 0))
 }

@@ -7,8 +7,8 @@ use Rattle.core_state.proofs.pens.pen_of.Goals.{then-has_96, else-has_96, then-s
 pub returns : goal.returns
 returns c =
     pen-made _ _ _ _ _ _ _ _ c.flag_bits-flags.ensures.0
-    (rw (c.set_number.ensures, c.left_set-gl.ensures))
-    (rw (c.set_number-2.ensures, c.right_set-gr.ensures))
+    (rw (c.from.ensures, c.left_set-gl.ensures))
+    (rw (c.from-2.ensures, c.right_set-gr.ensures))
     (rw (← c.left_set-gl.ensures, ← c.has_96.ensures) (elim c.if-has_96.branch [ then-has_96 w ↦ rw w.if-has_96.true w.space-is | else-has_96 w ↦ rw w.if-has_96.false w.space-is ]))
     (elim c.if-space-left.branch [
       | then-space-left w ↦ rw (eq-eqb _ _ w.if-space-left.true) w.low-is

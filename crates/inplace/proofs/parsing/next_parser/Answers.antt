@@ -10,22 +10,22 @@ use Rattle.idle.proofs.IdleLaws.{skipped-one, escape-idle, csi-idle}
 use Rattle.inplace.proofs.ParserLaws.{parameter-skipped}
 use Rattle.inplace.proofs.parsing.next_parser.Goals as goal
 
-pub returns-then-byte-eq-ESC : goal.returns-then-byte-eq-ESC
-returns-then-byte-eq-ESC c =
+pub returns-in-27 : goal.returns-in-27
+returns-in-27 c =
     let s = c.args.parser in
-    rw (c.cleared.ensures, c.if-byte-eq-ESC.true) (skipped-one s (cleared Escape) (0x1B ∷ []) 0 (omega arith) (escape-idle s))
+    rw (c.cleared.ensures, c.in-27.is) (skipped-one s (cleared Escape) (0x1B ∷ []) 0 (omega arith) (escape-idle s))
 
-pub returns-then-byte-eq-BRACKET : goal.returns-then-byte-eq-BRACKET
-returns-then-byte-eq-BRACKET c =
+pub returns-in-91 : goal.returns-in-91
+returns-in-91 c =
     let s = c.args.parser in
-    let here = phase-same s.phase Escape (rw c.if-byte-eq-BRACKET.true at c.requires) in
-    rw (c.cleared-then-byte-eq-BRACKET.ensures, c.if-byte-eq-BRACKET.true) (skipped-one s (cleared CsiEntry) (0x5B ∷ []) 0 (omega arith) (csi-idle s here))
+    let here = phase-same s.phase Escape (rw c.in-91.is at c.requires) in
+    rw (c.cleared-in-91.ensures, c.in-91.is) (skipped-one s (cleared CsiEntry) (0x5B ∷ []) 0 (omega arith) (csi-idle s here))
 
-pub returns : goal.returns
-returns c =
+pub returns-in_default : goal.returns-in_default
+returns-in_default c =
     let s = c.args.parser in
     let b = c.args.byte in
     let test : (takes_parameters s.phase && (between 0x30 b 0x39 || eqb b 0x3B)) ≡ true =
-    rw (ne_eqb b 0x1B c.if-byte-eq-ESC.false, ne_eqb b 0x5B c.if-byte-eq-BRACKET.false) at c.requires in
+    rw (ne_eqb b 0x1B (omega arith), ne_eqb b 0x5B (omega arith)) at c.requires in
     rw (c.with_params.ensures, c.take.ensures)
     (parameter-skipped s b (and_left (takes_parameters s.phase) _ test) (and_right (takes_parameters s.phase) _ test))

@@ -18,5 +18,5 @@ returns c p long =
     let t = c.args.terminal in
     let input = c.args.input.now in
     let skipped = rw c.parser_of.ensures at c.next_parser-parser.ensures in
-    rw c.parser_record-terminal.ensures
+    rw c.from-terminal.ensures
     (rw (one_byte input (steering t input c.requires.1).0) at (reparsed-fed t c.requires.0 c.next_parser-parser.result (get_or input 0 0) skipped p long))

@@ -10,4 +10,4 @@ returns-then-input-ne1 c = rw (ne_eqb _ 1 c.if-input-ne1.true)
 pub returns : goal.returns
 unfolding steers_in_place
 returns c =
-    rw (eq-eqb _ 1 c.if-input-ne1.false, ← c.phase_of.ensures) c.steers_by.ensures
+    rw (eq-eqb _ 1 c.if-input-ne1.false, ← c.from.ensures) c.steers_by.ensures

@@ -4,4 +4,4 @@ use Rattle.probes.proofs.pokes.parser_of.Goals as goal
 
 pub returns : goal.returns
 unfolding parser_of
-returns c = rw (c.values_of.ensures, c.phase_of.ensures)
+returns c = rw (c.values_of.ensures, c.from.ensures)

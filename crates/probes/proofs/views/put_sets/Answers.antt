@@ -3,5 +3,5 @@ use Rattle.probes.proofs.views.put_sets.Goals as goal
 
 pub returns : goal.returns
 returns c =
-    rw (c.set_number.ensures, c.set_number-2.ensures, c.set_number-3.ensures, c.set_number-4.ensures)
-    at (rw (c.register_number.ensures, c.register_number-2.ensures) at c.put_bytes.ensures)
+    rw (c.from.ensures, c.from-2.ensures, c.from-3.ensures, c.from-4.ensures)
+    at (rw (c.from-5.ensures, c.from-6.ensures) at c.put_bytes.ensures)

@@ -4,4 +4,4 @@ use Rattle.record.proofs.to_state.state_with.Goals as goal
 
 pub returns : goal.returns
 unfolding state_with
-returns c = rw (c.core_of-core.ensures, c.line_of-line.ensures, c.is_on.ensures)
+returns c = cc

@@ -1,5 +1,0 @@
--- The test is the definition's, of the phase's number.
-use Rattle.parser.proofs.phases.takes_parameters.Goals as goal
-
-pub returns : goal.returns
-returns c = rw c.phase_number-number.ensures

@@ -1,7 +1,0 @@
--- Each field is its callee's, or is copied.
-use Rattle.record.proofs.to_state.modes_of.Goals as goal
-
-pub returns : goal.returns
-returns c =
-    rw (c.is_on.ensures, c.is_on-2.ensures, c.is_on-3.ensures, c.is_on-4.ensures)
-    (rw (c.is_on-5.ensures, c.is_on-6.ensures, c.is_on-7.ensures))
