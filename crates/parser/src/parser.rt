@@ -5,7 +5,7 @@ ghost use Rattle.parser.specs.Parser as parsing;
 
 use crate::families::{Function, is_joined, joined_mark};
 use crate::params::Params;
-use crate::phases::{Op, Phase, intermediates, takes_parameters};
+use crate::phases::{Op, Phase, Transition, intermediates, takes_parameters};
 use crate::rules::{sequence_rule, transition};
 use ground::numbers::pick;
 use ground::tests::between;
@@ -74,14 +74,7 @@ impl Parser {
     pub fn in_phase(self, phase: Phase) -> Self
         ensures { result ≡ parsing.in_phase phase self }
     {
-        let params = self.params;
-        Parser {
-            phase,
-            mark: self.mark,
-            first: self.first,
-            second: self.second,
-            params,
-        }
+        Parser { phase, ..self }
     }
 
     // The phase that is entered tells whether the intermediate is the first or the second.
@@ -89,13 +82,11 @@ impl Parser {
         ensures { result ≡ parsing.collected phase self x }
     {
         let count = intermediates(phase);
-        let params = self.params;
         Parser {
             phase,
-            mark: self.mark,
             first: pick(count == 1, x, self.first),
             second: pick(count == 2, x, self.second),
-            params,
+            ..self
         }
     }
 
@@ -103,13 +94,10 @@ impl Parser {
     pub fn with_mark(self, phase: Phase, x: u8) -> Self
         ensures { result ≡ parsing.with_mark phase self x }
     {
-        let params = self.params;
         Parser {
             phase,
             mark: pick(is_joined(self.mark), joined_mark(x), x),
-            first: self.first,
-            second: self.second,
-            params,
+            ..self
         }
     }
 
@@ -117,8 +105,7 @@ impl Parser {
     fn mark_after(self, x: u8) -> u8
         ensures { result ≡ parsing.mark_after self x }
     {
-        let params = self.params;
-        if params.joins(x) {
+        if self.params.joins(x) {
             joined_mark(self.mark)
         } else {
             self.mark
@@ -131,17 +118,15 @@ impl Parser {
         Parser {
             phase,
             mark,
-            first: self.first,
-            second: self.second,
             params,
+            ..self
         }
     }
 
     fn gathered(self, phase: Phase, x: u8) -> Self
         ensures { result ≡ parsing.gathered phase self x }
     {
-        let params = self.params;
-        self.with_params(phase, self.mark_after(x), params.take(x))
+        self.with_params(phase, self.mark_after(x), self.params.take(x))
     }
 
     // What the parser keeps of a byte.
@@ -161,15 +146,13 @@ impl Parser {
     fn first_of(self) -> u8
         ensures { result ≡ parsing.first_of self }
     {
-        let phase = self.phase;
-        pick(1 <= intermediates(phase), self.first, 0)
+        pick(1 <= intermediates(self.phase), self.first, 0)
     }
 
     fn second_of(self) -> u8
         ensures { result ≡ parsing.second_of self }
     {
-        let phase = self.phase;
-        pick(2 <= intermediates(phase), self.second, 0)
+        pick(2 <= intermediates(self.phase), self.second, 0)
     }
 
     // What a byte asks for.
@@ -203,18 +186,15 @@ impl Parser {
         requires { (0x40 ≤ parsing.lowered byte) × (parsing.lowered byte < 0x7F) × (is_ground self.phase ≡ false) }
         ensures { result ≡ (parsing.decode self byte).action }
     {
-        let phase = self.phase;
-        let step = sequence_rule(phase, byte % 128);
-        let op = step.op;
-        self.action_of(op, byte)
+        let step = sequence_rule(self.phase, byte % 128);
+        self.action_of(step.op, byte)
     }
 
     // One byte. The end of a control sequence needs no rule.
     pub fn decode(self, byte: u8) -> Decoded
         ensures { result ≡ parsing.decode self byte }
     {
-        let phase = self.phase;
-        if takes_parameters(phase) & between(0x40, byte, 0x7E) {
+        if takes_parameters(self.phase) & between(0x40, byte, 0x7E) {
             return Decoded {
                 parser: self.in_phase(Phase::Ground),
                 action: sequence_action(Function {
@@ -225,9 +205,7 @@ impl Parser {
                 }),
             };
         }
-        let step = transition(phase, byte);
-        let next = step.next;
-        let op = step.op;
+        let Transition { next, op } = transition(self.phase, byte);
         Decoded {
             parser: self.kept(next, op, byte),
             action: self.action_of(op, byte),

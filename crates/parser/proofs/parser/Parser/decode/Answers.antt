@@ -12,4 +12,4 @@ returns-then-takes_parameters-between c =
 
 pub returns : goal.returns
 unfolding decode
-returns c = rw (c.action_of.ensures, c.kept.ensures, c.transition-step.ensures)
+returns c = rw (c.action_of.ensures, c.kept.ensures, c.transition-next.ensures)
