@@ -24,11 +24,7 @@ pub struct Idle {
 fn byte_is(input: &[u8], at: usize, byte: u8) -> bool
     ensures { result ≡ (ltb at (length input.now) && eqb (get_or input.now at 0) byte) }
 {
-    if at < input.len() {
-        input[at] == byte
-    } else {
-        false
-    }
+    input.get(at) == Some(&byte)
 }
 
 // ---- control sequences
@@ -62,11 +58,7 @@ fn gathers(phase: Phase, byte: u8) -> bool
 fn gathers_at(phase: Phase, input: &[u8], at: usize) -> bool
     ensures { result ≡ (ltb at (length input.now) && gathers phase (get_or input.now at 0)) }
 {
-    if at < input.len() {
-        gathers(phase, input[at])
-    } else {
-        false
-    }
+    input.get(at).is_some_and(|byte| gathers(phase, *byte))
 }
 
 // 3A or 3B: the place is joined or ends, and the next one opens.
@@ -155,11 +147,7 @@ fn opens(phase: Phase, byte: u8) -> bool
 fn opens_at(phase: Phase, input: &[u8], at: usize) -> bool
     ensures { result ≡ (ltb at (length input.now) && opens phase (get_or input.now at 0)) }
 {
-    if at < input.len() {
-        opens(phase, input[at])
-    } else {
-        false
-    }
+    input.get(at).is_some_and(|byte| opens(phase, *byte))
 }
 
 // All but CAN, SUB, ESC and 80 to 9F.
@@ -174,15 +162,15 @@ fn skip_text(parser: Parser, input: &[u8], from: usize) -> Idle
     requires { (from ≤ length input.now) × (is_string parser.phase ≡ true) }
     ensures { Skipped parser input.now from result }
 {
-    let mut i = from;
-    while i < input.len() {
-        let byte = input[i];
-        if !is_text(byte) {
+    for i in from..input.len() {
+        if !is_text(input[i]) {
             return Idle { parser, next: i };
         }
-        i += 1;
     }
-    Idle { parser, next: i }
+    Idle {
+        parser,
+        next: input.len(),
+    }
 }
 
 // A string that opens or goes on here.
@@ -190,11 +178,10 @@ fn skip_string(parser: Parser, input: &[u8], from: usize) -> Idle
     requires { from ≤ length input.now }
     ensures { Skipped parser input.now from result }
 {
-    let phase = parser.phase;
-    if opens_at(phase, input, from) {
+    if opens_at(parser.phase, input, from) {
         return skip_text(parser.in_phase(Phase::StringText), input, from + 1);
     }
-    if is_string(phase) {
+    if is_string(parser.phase) {
         return skip_text(parser, input, from);
     }
     Idle { parser, next: from }
@@ -209,8 +196,7 @@ pub fn skip_idle(parser: Parser, input: &[u8], from: usize) -> Idle
 {
     let next = after_csi(input, from);
     let fresh = from < next;
-    let phase = parser.phase;
-    if fresh | (takes_parameters(phase) & !byte_is(input, from, 0x1B)) {
+    if fresh | (takes_parameters(parser.phase) & !byte_is(input, from, 0x1B)) {
         return gather(parser, fresh, input, next);
     }
     if byte_is(input, from, 0x1B) {

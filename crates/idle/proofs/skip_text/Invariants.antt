@@ -1,11 +1,6 @@
 -- The loop keeps `Skipped`: the parser stays as it is.
-use Prim.Native.Nat.{◌-◌}
-use lib.ListN.{length}
 use Rattle.idle.specs.Idle.{Skipped}
 use Rattle.idle.proofs.skip_text.Given as goal
 
 abbrev pub invariant-loop-i : goal.invariant-loop-i
 invariant-loop-i l = Skipped l.parser l.input l.from (record { parser = l.parser; next = l.i })
-
-abbrev pub decreases-loop-i : goal.decreases-loop-i
-decreases-loop-i l = length l.input - l.i
