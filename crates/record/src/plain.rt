@@ -41,10 +41,8 @@ fn are_numbers(values: [u16; 16]) -> bool
     ensures { result ≡ none_above 9999 values }
 {
     let mut low = true;
-    let mut i = 0;
-    while i < 16 {
-        low = low & (values[i] <= 9999);
-        i += 1;
+    for value in values {
+        low &= value <= 9999;
     }
     low
 }
@@ -72,8 +70,6 @@ fn plain_places(terminal: Terminal) -> bool
     let rows = terminal.rows;
     let cursor = terminal.cursor;
     let saved = terminal.saved.cursor;
-    let status = terminal.status;
-    let kept = status.saved;
     is_sized(rows)
         & between(1, cursor.row, rows)
         & between(1, saved.row, rows)
@@ -82,23 +78,21 @@ fn plain_places(terminal: Terminal) -> bool
         & (terminal.bottom <= rows)
         & between(1, cursor.column, 80)
         & between(1, saved.column, 80)
-        & between(1, status.column, 80)
-        & between(1, kept.column, 80)
+        & between(1, terminal.status.column, 80)
+        & between(1, terminal.status.saved.column, 80)
 }
 
 // No wrap due, here or saved, origin off, the page active; the others are flags and shifts.
 fn plain_flags(terminal: Terminal) -> bool
     ensures { result ≡ every (plains.flag_tests terminal) }
 {
-    let cursor = terminal.cursor;
     let modes = terminal.modes;
     let saved = terminal.saved;
-    let place = saved.cursor;
     let status = terminal.status;
     let kept = status.saved;
-    (cursor.wrap == 0)
+    (terminal.cursor.wrap == 0)
         & (modes.origin == 0)
-        & (place.wrap == 0)
+        & (saved.cursor.wrap == 0)
         & (status.wrap == 0)
         & (kept.wrap == 0)
         & (status.active == 0)
@@ -122,10 +116,9 @@ fn plain_flags(terminal: Terminal) -> bool
 pub fn is_plain(terminal: Terminal) -> bool
     ensures { result ≡ plains.plain terminal }
 {
-    let values = terminal.values;
     let saved = terminal.saved;
     let kept = terminal.status.saved;
-    if !are_numbers(values) {
+    if !are_numbers(terminal.values) {
         return false;
     }
     if !(plain_parser(terminal) & plain_places(terminal)) {
@@ -140,6 +133,5 @@ pub fn is_plain(terminal: Terminal) -> bool
     {
         return false;
     }
-    let rows = terminal.rows;
-    terminal.changed < 1u64 << rows
+    terminal.changed < 1u64 << terminal.rows
 }
