@@ -18,10 +18,8 @@ fn all_ascii(input: &[u8]) -> bool
     ensures { result ≡ all_ascii input.now }
 {
     let mut all = true;
-    let mut i = 0;
-    while i < input.len() {
-        all = all & between(0x20, input[i], 0x7E);
-        i += 1;
+    for byte in input {
+        all &= between(0x20, *byte, 0x7E);
     }
     all
 }
@@ -30,14 +28,11 @@ fn all_ascii(input: &[u8]) -> bool
 fn puts_ascii(terminal: Terminal) -> bool
     ensures { result ≡ puts_ascii terminal }
 {
-    let parser = terminal.parser;
-    let modes = terminal.modes;
-    let sets = terminal.sets;
-    (parser.phase == 0)
+    (terminal.parser.phase == 0)
         & (terminal.shift == 0)
-        & (modes.insert == 0)
-        & (sets.g0 == 0)
-        & (sets.gl == 0)
+        & (terminal.modes.insert == 0)
+        & (terminal.sets.g0 == 0)
+        & (terminal.sets.gl == 0)
 }
 
 // A few characters that leave the cursor in its row with no wrap due.
@@ -47,8 +42,7 @@ pub fn takes(terminal: Terminal, input: &[u8]) -> bool
     if !(puts_ascii(terminal) & (input.len() <= 16)) {
         return false;
     }
-    let cursor = terminal.cursor;
-    if 80 < cursor.column as usize + input.len() {
+    if 80 < terminal.cursor.column as usize + input.len() {
         return false;
     }
     all_ascii(input)
@@ -74,12 +68,10 @@ fn put_ascii(page: &mut [u16], at: usize, input: &[u8], base: u16) -> bool
     ensures { Pasted page.old page.new at (map (λ (b : ℕ). base + b) input.now) (length input.now) result }
 {
     let mut changed = false;
-    let mut k = 0;
-    while k < input.len() {
-        let word = base + input[k] as u16;
-        changed = changed | (page[at + k] != word);
+    for k in 0..input.len() {
+        let word = base + u16::from(input[k]);
+        changed |= page[at + k] != word;
         page[at + k] = word;
-        k += 1;
     }
     changed
 }
@@ -99,11 +91,8 @@ pub fn moved(mut terminal: Terminal, count: usize, changed: bool) -> Terminal
     requires { (plain terminal ≡ true) × (terminal.cursor.column + count ≤ 80) }
     ensures { result ≡ moved_by terminal count changed }
 {
-    let unused = [0u8; 5];
-    let mut cursor = terminal.cursor;
-    terminal.changed = terminal.changed | row_bit(cursor.row - 1, changed);
-    cursor.column = cursor.column + count as u8;
-    terminal.cursor = cursor;
-    terminal.unused = unused;
+    terminal.changed |= row_bit(terminal.cursor.row - 1, changed);
+    terminal.cursor.column += count as u8;
+    terminal.unused = [0u8; 5];
     terminal
 }

@@ -1,14 +1,20 @@
-use Rattle.std.proofs.Common.{sym, refl, ◌∙◌}
+use Rattle.std.proofs.Common.{◌<◌, ◌≤◌, length, sym, refl, ◌∙◌, arith}
 use Rattle.inplace.proofs.AsciiLaws.{one_more, no_more}
 use Rattle.inplace.proofs.all_ascii.Goals as goal
 
-pub loop-i-preserved : goal.loop-i-preserved
-loop-i-preserved c =
-    rw c.between-all.ensures (one_more c.args.input.now c.loop-i.all c.loop-i.i c.loop-i-test.true ∙ c.loop-i.invariant)
+pub loop-byte-preserved : goal.loop-byte-preserved
+loop-byte-preserved c =
+    let input = c.args.input.now in
+    let i = c.loop-byte.byte-index in
+    let h : i < length input = omega arith in
+    rw c.between-all.ensures (one_more input c.loop-byte.all i h ∙ c.loop-byte.invariant)
 
 pub returns : goal.returns
 returns c =
-    sym (no_more c.args.input.now c.loop-i.all c.loop-i.i c.loop-i-test.false) ∙ c.loop-i.invariant
+    let input = c.args.input.now in
+    let i = c.loop-byte.byte-index in
+    let h : length input ≤ i = omega arith in
+    sym (no_more input c.loop-byte.all i h) ∙ c.loop-byte.invariant
 
-pub loop-i-init : goal.loop-i-init
-loop-i-init c = refl
+pub loop-byte-init : goal.loop-byte-init
+loop-byte-init c = refl

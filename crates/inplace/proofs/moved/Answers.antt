@@ -4,8 +4,8 @@ use Rattle.inplace.specs.InPlace.{moved_by}
 use Rattle.inplace.proofs.PlaceLaws.{few-rows, on-page}
 use Rattle.inplace.proofs.moved.Goals as goal
 
-pub overflow_sub-cursor : goal.overflow_sub-cursor
-overflow_sub-cursor c =
+pub overflow_sub-terminal : goal.overflow_sub-terminal
+overflow_sub-terminal c =
     omega (arith, (on-page c.args.terminal c.requires.0).row_low)
 
 pub row_bit-requires : goal.row_bit-requires

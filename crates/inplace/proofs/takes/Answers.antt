@@ -13,12 +13,12 @@ pub returns-then-not-puts_ascii-input : goal.returns-then-not-puts_ascii-input
 unfolding takes_in_place
 returns-then-not-puts_ascii-input c = rw (first (goal.at.returns-then-not-puts_ascii-input c).After-puts_ascii ∙ c.if-not-puts_ascii-input.true)
 
-pub returns-then-cursor-input-gt80 : goal.returns-then-cursor-input-gt80
+pub returns-then-terminal-input-gt80 : goal.returns-then-terminal-input-gt80
 unfolding takes_in_place
-returns-then-cursor-input-gt80 c =
-    rw (first (goal.at.returns-then-cursor-input-gt80 c).After-puts_ascii ∙ c.if-not-puts_ascii-input.false, lt-leb _ 80 c.if-cursor-input-gt80.true)
+returns-then-terminal-input-gt80 c =
+    rw (first (goal.at.returns-then-terminal-input-gt80 c).After-puts_ascii ∙ c.if-not-puts_ascii-input.false, lt-leb _ 80 c.if-terminal-input-gt80.true)
 
 pub returns : goal.returns
 unfolding takes_in_place
 returns c =
-    rw (first (goal.at.returns c).After-puts_ascii ∙ c.if-not-puts_ascii-input.false, le-leb _ 80 c.if-cursor-input-gt80.false) c.all_ascii.ensures
+    rw (first (goal.at.returns c).After-puts_ascii ∙ c.if-not-puts_ascii-input.false, le-leb _ 80 c.if-terminal-input-gt80.false) c.all_ascii.ensures
