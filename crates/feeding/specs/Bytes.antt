@@ -1,5 +1,5 @@
 -- What the loop over the input promises: the bytes that are read are done, and their replies stand at the front of the buffer.
-use Rattle.std.specs.Prelude.{◌≡◌, ℕ, ◌-◌, ◌<◌, ◌≤◌, Bool, true, false, List, length, take, nat_lt}
+use Rattle.std.specs.Prelude.{◌≡◌, ℕ, ◌-◌, ◌<◌, ◌≤◌, Bool, Option, List, length, take, nat_lt, MatchOption}
 use Rattle.std.proofs.lemmas.List.Edits.{sets}
 use Rattle.ground.specs.Writes.{Wrote}
 use Rattle.core_state.specs.declared.Displays.{Displays}
@@ -22,10 +22,9 @@ pub record Stopped (k : Displays) (b : ℕ) (o : List ℕ) (n : ℕ) (o' : List 
   pub room : length o - n < length (sends_of k b)
   pub reply : o' ≡ o
 
-pub record Answered (k : Displays) (b : ℕ) (o : List ℕ) (n : ℕ) (r : Heeded) (o' : List ℕ) : Type 0 where
-  pub action : r.action ≡ heeded k.core.parser b
-  pub fits : r.full ≡ false → Fitted k b o n r.replied o'
-  pub stopped : r.full ≡ true → Stopped k b o n o'
+-- the one or, with what the byte asks for, the other
+abbrev pub Answered : Displays → ℕ → List ℕ → ℕ → Option Heeded → List ℕ → Type 0
+Answered k b o n r o' = MatchOption r (Stopped k b o n o') (λ h. (h.action ≡ heeded k.core.parser b) × Fitted k b o n h.replied o')
 
 -- ---- the input
 

@@ -18,19 +18,18 @@ use dispatch::reply::reply_to;
 use page::Edit;
 use page::edits::apply;
 use parser::parser::Action;
-use steps::{State, Tracked};
+use steps::State;
 
-// What a byte that may draw a reply or tell the line something asks for, and nothing of any other; how many bytes are in the
-// reply buffer; and whether its reply does not fit.
+// What a byte that may draw a reply or tell the line something asks for, and nothing of any other; and how many bytes are in the
+// reply buffer.
 #[derive(Clone, Copy)]
 pub struct Heeded {
     pub action: Action,
     pub replied: usize,
-    pub full: bool,
 }
 
 // How many bytes of the input were read, how many were written to the reply buffer, and whether
-// reading stopped before a reply that does not fit.
+// reading stopped before a reply that does not fit. No Result: the other fields count either way.
 #[derive(Clone, Copy)]
 pub struct FedBytes {
     pub state: State,
@@ -51,34 +50,26 @@ fn active_reply(core: Core, line: StatusLine, action: Action) -> Option<Reply>
 }
 
 // Before a byte is done: its reply is sent, or it does not fit.
-fn heed(core: Core, line: StatusLine, byte: u8, reply: &mut [u8], replied: usize) -> Heeded
+fn heed(core: Core, line: StatusLine, byte: u8, reply: &mut [u8], replied: usize) -> Option<Heeded>
     requires { WholeDisplays (record { core = core; line = line }) × (replied ≤ length reply.old) }
     ensures { Answered (record { core = core; line = line }) byte reply.old replied result reply.new }
 {
-    let parser = core.parser;
-    let phase = parser.phase;
-    if !interrupts(phase, byte) {
-        return Heeded {
+    if !interrupts(core.parser.phase, byte) {
+        return Some(Heeded {
             action: Action::Nothing,
             replied,
-            full: false,
-        };
+        });
     }
-    let action = interruption(parser, byte);
+    let action = interruption(core.parser, byte);
     let eightbit = core.modes.eightbit;
     let kind = active_reply(core, line, action);
     if reply.len() - replied < reply_len(eightbit, kind) {
-        return Heeded {
-            action,
-            replied,
-            full: true,
-        };
+        return None;
     }
-    Heeded {
+    Some(Heeded {
         action,
         replied: send(eightbit, kind, reply, replied),
-        full: false,
-    }
+    })
 }
 
 // RIS blanks the line with the page. Whether that changed it.
@@ -87,15 +78,12 @@ fn blank_line(action: Action, cells: &mut [u16]) -> bool
     ensures { (cells.new ≡ (edited_by 1 (line_edits action) cells.old).page)
         × (result ≡ not ((edited_by 1 (line_edits action) cells.old).changed == 0)) }
 {
-    if resets_all(action) {
-        let whole = Edit::FillRange {
-            from: 0,
-            to: 80,
-            word: BLANK,
-        };
-        return apply(whole, cells, 1, 0) != 0;
-    }
-    false
+    let whole = Edit::FillRange {
+        from: 0,
+        to: 80,
+        word: BLANK,
+    };
+    resets_all(action) && apply(whole, cells, 1, 0) != 0
 }
 
 // Where a turn ends: after one byte, or with the input.
@@ -103,37 +91,13 @@ fn turn_end(alone: bool, from: usize, len: usize) -> usize
     requires { from < len }
     ensures { result ≡ (if alone then from + 1 else len) }
 {
-    if alone {
-        return from + 1;
-    }
-    len
-}
-
-fn ended(
-    core: Core,
-    line: StatusLine,
-    tracked: Tracked,
-    read: usize,
-    replied: usize,
-    full: bool,
-) -> FedBytes
-    ensures { result ≡ record { state = state_from core line tracked; read = read; replied = replied; full = full } }
-{
-    FedBytes {
-        state: State {
-            displays: Displays { core, line },
-            tracked,
-        },
-        read,
-        replied,
-        full,
-    }
+    if alone { from + 1 } else { len }
 }
 
 // The bytes of the input, until one's reply does not fit: one that acts on the line or tells it something, or as many as go
-// on the page at once.
+// on the page at once. A while, since a turn is as long as its run.
 pub fn feed_bytes(
-    state: State,
+    mut state: State,
     page: &mut [u16],
     cells: &mut [u16],
     input: &[u8],
@@ -143,36 +107,45 @@ pub fn feed_bytes(
     ensures { record { result = result; buffers = buffers page.new cells.new; reply = reply.new }
         ≡ bytes_fed state (buffers page.old cells.old) input.now reply.old }
 {
-    let mut core = state.displays.core;
-    let mut line = state.displays.line;
-    let mut tracked = state.tracked;
-    let mut i = 0;
+    let mut read = 0;
     let mut replied = 0;
-    while i < input.len() {
-        let heeded = heed(core, line, input[i], reply, replied);
-        if heeded.full {
-            return ended(core, line, tracked, i, replied, true);
-        }
+    while read < input.len() {
+        let Displays { core, line } = state.displays;
+        let Some(heeded) = heed(core, line, input[read], reply, replied) else {
+            return FedBytes {
+                state,
+                read,
+                replied,
+                full: true,
+            };
+        };
         replied = heeded.replied;
         let action = heeded.action;
-        let params = core.parser.params;
-        let selector = params.get(0);
+        let selector = core.parser.params.get(0);
         if line.active & !leaves_line(action) {
-            let run = feed_display(line_view(core, line), 0, cells, &input[i..i + 1]);
-            let view = run.core;
-            core = page_behind(core, view);
-            line = tell_line(line_behind(line, view), action, selector);
-            tracked.flag = (run.changed != 0) | tracked.flag;
-            i += 1;
+            let run = feed_display(line_view(core, line), 0, cells, &input[read..read + 1]);
+            state.displays = Displays {
+                core: page_behind(core, run.core),
+                line: tell_line(line_behind(line, run.core), action, selector),
+            };
+            state.tracked.flag |= run.changed != 0;
+            read += 1;
         } else {
-            let end = turn_end(tells_line(action), i, input.len());
-            let run = feed_display(core, tracked.changed, page, &input[i..end]);
-            core = run.core;
-            line = tell_line(line_beside(line, run.lasting), action, selector);
-            tracked.changed = run.changed;
-            tracked.flag = blank_line(action, cells) | tracked.flag;
-            i += run.read;
+            let end = turn_end(tells_line(action), read, input.len());
+            let run = feed_display(core, state.tracked.changed, page, &input[read..end]);
+            state.displays = Displays {
+                core: run.core,
+                line: tell_line(line_beside(line, run.lasting), action, selector),
+            };
+            state.tracked.changed = run.changed;
+            state.tracked.flag |= blank_line(action, cells);
+            read += run.read;
         }
     }
-    ended(core, line, tracked, i, replied, false)
+    FedBytes {
+        state,
+        read,
+        replied,
+        full: false,
+    }
 }

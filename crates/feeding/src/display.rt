@@ -17,7 +17,7 @@ pub struct Run {
 }
 
 // The first byte, whatever it is, and those after it up to one that may draw a reply or tell the line something: bytes that move
-// parts of the core alone, then one of any kind.
+// parts of the core alone, then one of any kind. A while, since such bytes are done many at a time.
 pub fn feed_display(core: Core, changed: u64, page: &mut [u16], input: &[u8]) -> Run
     requires { Paged core page.old }
     ensures { Ran core changed page.old input.now result page.new }
@@ -28,18 +28,14 @@ pub fn feed_display(core: Core, changed: u64, page: &mut [u16], input: &[u8]) ->
     let mut i = 0;
     while i < input.len() {
         let done = feed_parts(core, changed, page, input, i);
-        let cursor = done.cursor;
-        let rendition = done.rendition;
-        let parser = done.parser;
-        core.cursor = cursor;
-        core.rendition = rendition;
-        core.parser = parser;
+        core.cursor = done.cursor;
+        core.rendition = done.rendition;
+        core.parser = done.parser;
         changed = done.changed;
         i = done.next;
         if i < input.len() {
             let byte = input[i];
-            let phase = parser.phase;
-            if interrupts(phase, byte) & (i != 0) {
+            if interrupts(done.parser.phase, byte) & (i != 0) {
                 return Run {
                     core,
                     changed,
@@ -47,11 +43,10 @@ pub fn feed_display(core: Core, changed: u64, page: &mut [u16], input: &[u8]) ->
                     read: i,
                 };
             }
-            let decoded = parser.decode(byte);
-            let after = step(core, changed, byte, decoded, page);
+            let after = step(core, changed, byte, done.parser.decode(byte), page);
             core = after.core;
             changed = after.changed;
-            lasting = lasting & core.modes.autowrap;
+            lasting &= core.modes.autowrap;
             i += 1;
         }
     }

@@ -20,6 +20,3 @@ pub returns : goal.returns
 returns c =
     let a = c.args in
     c.reply_to-2.ensures ∙ sym (ap (λ (t : Bool). reply_to (cond t (line_view a.core a.line) a.core) a.action) c.if-line.false)
-
-pub reply_to-requires-2 : goal.reply_to-requires-2
-reply_to-requires-2 c = c.requires.core.parts.bounds

@@ -15,5 +15,5 @@ returns-then-resets_all c =
     A.page A.marked in
     rw (told c.resets_all.ensures c.if-resets_all.true) (ap (λ (m : Marked). m.page) is, ap (λ (m : Marked). not (eqb m.changed 0)) is)
 
-pub returns : goal.returns
-returns c = rw (told c.resets_all.ensures c.if-resets_all.false) (refl, refl)
+pub returns-else-resets_all : goal.returns-else-resets_all
+returns-else-resets_all c = rw (c.if-resets_all.false, told c.resets_all.ensures c.if-resets_all.false) (refl, refl)

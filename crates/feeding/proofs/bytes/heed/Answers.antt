@@ -1,6 +1,5 @@
 -- What is measured and sent is the definition's reply; a byte that does not interrupt draws none.
 use Rattle.std.proofs.Common.{◌≡◌, Bool, cond, length, sym, refl, ap, ◌∙◌, zero-le, arith}
-use mathlib.Core.Bool.{false≢true}
 use Rattle.ground.proofs.Cases.{told}
 use Rattle.ground.proofs.WriteLaws.{wrote_none}
 use Rattle.parser.specs.declared.parser.Action.TheVariants.{Nothing}
@@ -22,12 +21,10 @@ displays_of c l = record { core = c; line = l }
 pub returns-then-not-interrupts : goal.returns-then-not-interrupts
 returns-then-not-interrupts c =
     let off = told c.interrupts.ensures (c.if-not-interrupts.true) in
-    let none = uninterrupted-sends (displays_of c.args.core c.args.line) c.args.byte off in
-    record {
-      action = sym (ap (λ (t : Bool). cond t (decode c.args.core.parser c.args.byte).action Nothing) off);
-      fits = λ e. record { room = rw none zero-le; wrote = rw none (wrote_none c.args.reply.now c.args.replied) };
-      stopped = λ e. absurd (false≢true e);
-    }
+    let none = uninterrupted-sends (displays_of c.args.core c.args.line) c.args.byte off in (
+      sym (ap (λ (t : Bool). cond t (decode c.args.core.parser c.args.byte).action Nothing) off),
+      record { room = rw none zero-le; wrote = rw none (wrote_none c.args.reply.now c.args.replied) },
+    )
 
 -- what it asks for
 acts : (c : After-interruption-action) → c.interruption-action.result ≡ heeded c.args.core.parser c.args.byte
@@ -45,22 +42,13 @@ replies c =
 pub returns-then-reply-replied : goal.returns-then-reply-replied
 returns-then-reply-replied c =
     record {
-      action = acts (goal.at.returns-then-reply-replied c).After-interruption-action;
-      fits = λ e. absurd (false≢true (sym e));
-      stopped = λ e. record { room = omega (arith, c.if-reply-replied.true, c.reply_len.ensures, ap length (replies (goal.at.returns-then-reply-replied c).After-active_reply-kind)); reply = refl };
+      room = omega (arith, c.if-reply-replied.true, c.reply_len.ensures, ap length (replies (goal.at.returns-then-reply-replied c).After-active_reply-kind));
+      reply = refl;
     }
 
 pub returns : goal.returns
 returns c =
-    let is = replies (goal.at.returns c).After-active_reply-kind in
-    record {
-      action = acts (goal.at.returns c).After-interruption-action;
-      fits = λ e. record { room = omega (arith, c.if-reply-replied.false, c.reply_len.ensures, ap length is); wrote = rw is at c.send.ensures };
-      stopped = λ e. absurd (false≢true e);
-    }
-
-pub interruption-action-requires : goal.interruption-action-requires
-interruption-action-requires c = told c.interrupts.ensures (c.if-not-interrupts.false)
-
-pub active_reply-kind-requires : goal.active_reply-kind-requires
-active_reply-kind-requires c = c.requires.0
+    let is = replies (goal.at.returns c).After-active_reply-kind in (
+      acts (goal.at.returns c).After-interruption-action,
+      record { room = omega (arith, c.if-reply-replied.false, c.reply_len.ensures, ap length is); wrote = rw is at c.send.ensures },
+    )

@@ -4,10 +4,10 @@ use Rattle.ground.proofs.TestLaws.{and_right}
 use Rattle.spans.specs.Parts.{with_parts}
 use Rattle.feeding.proofs.DisplayLoop.{Running, running_none, running-span, running_more, running-ran}
 use Rattle.feeding.proofs.display.feed_display.Goals as goal
-use Rattle.feeding.proofs.display.feed_display.Goals.{After-parser-1}
+use Rattle.feeding.proofs.display.feed_display.Goals.{After-feed_parts-done}
 
 -- the round's bytes that move parts are done
-spans : (c : After-parser-1) →
+spans : (c : After-feed_parts-done) →
     let a = c.args in
     let r = c.feed_parts-done.result in
     Running a.core a.changed a.page.now a.input.now r.next
@@ -16,47 +16,23 @@ spans c =
     let r = c.feed_parts-done.result in
     running-span c.loop-i.invariant r.next _ r.changed c.feed_parts-done.new.page c.feed_parts-done.ensures
 
-pub shape_of-page-then-interrupts-i : goal.shape_of-page-then-interrupts-i
-shape_of-page-then-interrupts-i c = (spans (goal.at.shape_of-page-then-interrupts-i c).After-parser-1).long
-
 pub returns-then-interrupts-i : goal.returns-then-interrupts-i
 returns-then-interrupts-i c =
     let next = c.feed_parts-done.result.next in
     let there = not-true (eqb next 0) (and_right c.interrupts.result (not (eqb next 0)) c.if-interrupts-i.true) in
-    running-ran (spans (goal.at.returns-then-interrupts-i c).After-parser-1) (λ _. omega (arith, eqb-false next 0 there))
-
-pub step-after-requires : goal.step-after-requires
-step-after-requires c =
-    ((spans (goal.at.step-after-requires c).After-parser-1).paged, c.decode-decoded.ensures)
-
-pub overflow_add-i : goal.overflow_add-i
-overflow_add-i c =
-    omega (arith, c.if-i-input.true, c.well_formed.1.1.1.0)
-
-pub loop-i-smaller-then-i-input : goal.loop-i-smaller-then-i-input
-loop-i-smaller-then-i-input c =
-    omega (arith, c.if-i-input.true, c.feed_parts-done.ensures.start)
+    running-ran (spans (goal.at.returns-then-interrupts-i c).After-feed_parts-done) (λ _. omega (arith, eqb-false next 0 there))
 
 pub loop-i-preserved-then-i-input : goal.loop-i-preserved-then-i-input
 loop-i-preserved-then-i-input c =
-    running_more (spans (goal.at.loop-i-preserved-then-i-input c).After-parser-1) c.if-i-input.true _ refl (rw c.interrupts.ensures at c.if-interrupts-i.false) c.step-after.result
+    running_more (spans (goal.at.loop-i-preserved-then-i-input c).After-feed_parts-done) c.if-i-input.true _ refl (rw c.interrupts.ensures at c.if-interrupts-i.false) c.step-after.result
     c.step-after.new.page c.step-after.ensures
-
-pub loop-i-smaller : goal.loop-i-smaller
-loop-i-smaller c = omega (arith, c.if-i-input.false, c.loop-i-test.true)
 
 pub returns : goal.returns
 returns c =
     running-ran c.loop-i.invariant (λ h. omega (arith, c.loop-i-test.false))
 
+pub loop-i-preserved : goal.loop-i-preserved
+loop-i-preserved c = spans (goal.at.loop-i-preserved c).After-feed_parts-done
+
 pub loop-i-init : goal.loop-i-init
 loop-i-init c = running_none _ _ _ _ c.requires
-
-pub feed_parts-done-requires : goal.feed_parts-done-requires
-feed_parts-done-requires c = let inv = c.loop-i.invariant in (inv.paged, inv.within)
-
-pub loop-i-preserved : goal.loop-i-preserved
-loop-i-preserved c = spans (goal.at.loop-i-preserved c).After-parser-1
-
-pub shape_of-page : goal.shape_of-page
-shape_of-page c = c.loop-i.invariant.long
