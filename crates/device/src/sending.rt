@@ -1,14 +1,12 @@
-// The replies, and their bytes, written into a lent buffer. Each writer takes the place to start at, and
-// returns the place after what it wrote.
+// The replies, and their bytes, written into a lent buffer.
 ghost use Rattle.std.specs.Prelude.{◌≡◌, [], ◌∷◌, ◌++◌, ◌+◌, ◌≤◌, length};
 ghost use Rattle.device.specs.declared.sending.Reply.TheVariants.{Position, ExtendedPosition};
 ghost use Rattle.ground.specs.Decimals.{decimal};
 ghost use Rattle.device.specs.ReplyBytes.{csi, body_of, reply_bytes};
-ghost use Rattle.ground.specs.Writes.{Counted};
-ghost use Rattle.ground.specs.Writes.{Wrote};
+ghost use Rattle.ground.specs.Writes.{Counted, Wrote, Room, Appended};
 
-use ground::decimals::{decimal_len, write_decimal};
-use ground::writing::{write_byte, write_bytes};
+use ground::decimals::decimal_len;
+use ground::writing::Writer;
 
 // ---- the replies
 
@@ -62,69 +60,74 @@ pub fn reply_len(eightbit: bool, reply: Option<Reply>) -> usize
 // ---- writers
 
 // CSI as one byte or as two.
-fn send_csi(out: &mut [u8], at: usize, eightbit: bool) -> usize
-    requires { at + length (csi eightbit) ≤ length out.old }
-    ensures { Wrote out.old at (csi eightbit) out.new result }
+fn send_csi(out: &mut Writer, eightbit: bool)
+    requires { Room out.old (length (csi eightbit)) }
+    ensures { Appended out.old (csi eightbit) out.new }
 {
     if eightbit {
-        return write_byte(out, at, 0x9B);
+        out.byte(0x9B);
+    } else {
+        out.bytes(b"\x1B[");
     }
-    write_bytes(out, at, b"\x1B[")
 }
 
 // Row and column with 3B between.
-fn send_place(out: &mut [u8], at: usize, row: u8, column: u8) -> usize
-    requires { at + length (decimal row ++ (0x3B ∷ []) ++ decimal column) ≤ length out.old }
-    ensures { Wrote out.old at (decimal row ++ (0x3B ∷ []) ++ decimal column) out.new result }
+fn send_place(out: &mut Writer, row: u8, column: u8)
+    requires { Room out.old (length (decimal row ++ (0x3B ∷ []) ++ decimal column)) }
+    ensures { Appended out.old (decimal row ++ (0x3B ∷ []) ++ decimal column) out.new }
 {
-    let separator = write_decimal(out, at, row);
-    let second = write_byte(out, separator, 0x3B);
-    write_decimal(out, second, column)
+    out.decimal(row);
+    out.byte(0x3B);
+    out.decimal(column);
 }
 
 // CPR.
-fn send_position(out: &mut [u8], at: usize, row: u8, column: u8) -> usize
-    requires { at + length (body_of (Position row column)) ≤ length out.old }
-    ensures { Wrote out.old at (body_of (Position row column)) out.new result }
+fn send_position(out: &mut Writer, row: u8, column: u8)
+    requires { Room out.old (length (body_of (Position row column))) }
+    ensures { Appended out.old (body_of (Position row column)) out.new }
 {
-    let last = send_place(out, at, row, column);
-    write_byte(out, last, 0x52)
+    send_place(out, row, column);
+    out.byte(0x52);
 }
 
 // DECXCPR.
-fn send_extended(out: &mut [u8], at: usize, row: u8, column: u8) -> usize
-    requires { at + length (body_of (ExtendedPosition row column)) ≤ length out.old }
-    ensures { Wrote out.old at (body_of (ExtendedPosition row column)) out.new result }
+fn send_extended(out: &mut Writer, row: u8, column: u8)
+    requires { Room out.old (length (body_of (ExtendedPosition row column))) }
+    ensures { Appended out.old (body_of (ExtendedPosition row column)) out.new }
 {
-    let first = write_byte(out, at, 0x3F);
-    let last = send_place(out, first, row, column);
-    write_bytes(out, last, b";1R")
+    out.byte(0x3F);
+    send_place(out, row, column);
+    out.bytes(b";1R");
 }
 
 // What follows CSI.
-fn send_body(reply: Reply, out: &mut [u8], at: usize) -> usize
-    requires { at + length (body_of reply) ≤ length out.old }
-    ensures { Wrote out.old at (body_of reply) out.new result }
+fn send_body(out: &mut Writer, reply: Reply)
+    requires { Room out.old (length (body_of reply)) }
+    ensures { Appended out.old (body_of reply) out.new }
 {
     match reply {
-        Reply::PrimaryAttributes => write_bytes(out, at, b"?64;6c"),
-        Reply::SecondaryAttributes => write_bytes(out, at, b">41;1;0c"),
-        Reply::Status => write_bytes(out, at, b"0n"),
-        Reply::Position { row, column } => send_position(out, at, row, column),
-        Reply::ExtendedPosition { row, column } => send_extended(out, at, row, column),
-        Reply::Printer => write_bytes(out, at, b"?13n"),
+        Reply::PrimaryAttributes => out.bytes(b"?64;6c"),
+        Reply::SecondaryAttributes => out.bytes(b">41;1;0c"),
+        Reply::Status => out.bytes(b"0n"),
+        Reply::Position { row, column } => send_position(out, row, column),
+        Reply::ExtendedPosition { row, column } => send_extended(out, row, column),
+        Reply::Printer => out.bytes(b"?13n"),
     }
 }
 
+// From a place of the buffer on. Returns the place after the reply.
 pub fn send(eightbit: bool, reply: Option<Reply>, out: &mut [u8], at: usize) -> usize
     requires { at + length (reply_bytes eightbit reply) ≤ length out.old }
     ensures { Wrote out.old at (reply_bytes eightbit reply) out.new result }
 {
-    match reply {
-        None => at,
-        Some(reply) => {
-            let next = send_csi(out, at, eightbit);
-            send_body(reply, out, next)
-        }
-    }
+    let Some(reply) = reply else {
+        return at;
+    };
+    let mut writer = Writer {
+        bytes: out,
+        len: at,
+    };
+    send_csi(&mut writer, eightbit);
+    send_body(&mut writer, reply);
+    writer.len
 }

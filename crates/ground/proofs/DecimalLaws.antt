@@ -45,6 +45,15 @@ decimal-more n h =
     let k : ℕ = n - 1 in
     rw (digits-enough n (suc k) n (omega arith) (omega arith), le-ltb n 10 h, digits-enough k (n / 10) (n / 10) (omega arith) (omega arith))
 
+-- below 100, and below 1000
+pub decimal-two : (n : ℕ) → 10 ≤ n → n < 100 → decimal n ≡ (0x30 + n / 10) ∷ (0x30 + n % 10) ∷ []
+decimal-two n l h = rw (decimal-more n l, decimal-small (n / 10) (omega arith))
+
+pub decimal-three : (n : ℕ) → 100 ≤ n → n < 1000 → decimal n ≡ (0x30 + n / 100) ∷ (0x30 + n / 10 % 10) ∷ (0x30 + n % 10) ∷ []
+decimal-three n l h =
+    let tenth : n / 10 / 10 ≡ n / 100 = omega arith in
+    rw (decimal-more n (omega arith), decimal-two (n / 10) (omega arith) (omega arith), tenth)
+
 -- ---- the value
 
 value-append : (v : ℕ) (xs : List ℕ) (d : ℕ) → value_from v (xs ++ (d ∷ [])) ≡ 10 * value_from v xs + (d - 0x30)

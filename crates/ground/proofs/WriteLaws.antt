@@ -1,13 +1,14 @@
 -- Writing bytes one run after the other.
-use mathlib.Core.Path.{◌≡◌, refl, sym}
-use mathlib.Core.List.{List, [], ◌∷◌, ◌++◌}
-use Prim.Native.Nat.{ℕ, suc, ◌+◌, ◌<◌}
+use mathlib.Core.Path.{◌≡◌, refl, sym, ap, ◌∙◌}
+use mathlib.Core.List.{List, [], ◌∷◌, ◌++◌, append_assoc}
+use Prim.Native.Nat.{ℕ, suc, ◌+◌, ◌≤◌}
 use native.Mathlib.Nat.{add-zero, add-suc, suc-add, add_assoc}
-use native.Mathlib.Numerals.{add-one}
 use native.Mathlib.Omega.{arith}
-use lib.ListN.{length, get_or, take, set, length-set, length-append}
-use lib.Seq.{sets, take-suc}
-use Rattle.ground.specs.Writes.{Wrote}
+use lib.ListN.{length, set, take, drop, length-append}
+use lib.Seq.{sets, length-sets, drop-drop}
+use Rattle.std.proofs.lemmas.List.Edits.{sets-eq}
+use Rattle.ground.specs.declared.writing.Writer.{Writer}
+use Rattle.ground.specs.Writes.{Wrote, Appended}
 
 sets-append : (xs ys l : List ℕ) (i : ℕ) → sets l i (xs ++ ys) ≡ sets (sets l i xs) (i + length xs) ys
 sets-append [] ys l i = rw (add-zero i)
@@ -20,11 +21,17 @@ pub wrote-more : {o : List ℕ} {at : ℕ} {xs : List ℕ} {o1 : List ℕ} {n1 :
     → Wrote o at xs o1 n1 → Wrote o1 n1 ys o2 n2 → Wrote o at (xs ++ ys) o2 n2
 wrote-more {o} {at} {xs} {o1} {n1} {ys} a b = record { is = cc (sets-append xs ys o at); ends = simp length-append (omega arith); long = cc }
 
--- one byte more
-pub bytes-more : (o : List ℕ) (at : ℕ) (bytes out : List ℕ) (i : ℕ) → i < length bytes
-    → Wrote o at (take i bytes) out (at + i)
-    → Wrote o at (take (i + 1) bytes) (set out (at + i) (get_or bytes i 0)) (at + (i + 1))
-bytes-more o at bytes out i h a =
-    let b : Wrote out (at + i) (get_or bytes i 0 ∷ []) (set out (at + i) (get_or bytes i 0)) (at + i + 1) =
-    record { is = refl; ends = refl; long = length-set out (at + i) (get_or bytes i 0) } in
-    rw (← add_assoc at i 1, add-one i, take-suc bytes i 0 h) (wrote-more a b)
+-- a part that is copied over is as many bytes set
+pub wrote-over : (o : List ℕ) (at : ℕ) (bytes : List ℕ) → at + length bytes ≤ length o
+    → Wrote o at bytes (take at o ++ (bytes ++ drop (length bytes) (drop at o))) (at + length bytes)
+wrote-over o at bytes h =
+    let over : take at o ++ (bytes ++ drop (length bytes) (drop at o)) ≡ sets o at bytes = rw (sets-eq bytes o at h, drop-drop, append_assoc) in
+    record { is = over; ends = refl; long = ap length over ∙ length-sets o at bytes }
+
+-- ---- by a writer
+
+pub append_none : (w : Writer) → Appended w [] w
+append_none w = record { same = refl; wrote = wrote_none w.bytes.now w.len }
+
+pub append-more : {a : Writer} {xs : List ℕ} {b : Writer} {ys : List ℕ} {c : Writer} → Appended a xs b → Appended b ys c → Appended a (xs ++ ys) c
+append-more p q = record { same = cc; wrote = wrote-more p.wrote q.wrote }

@@ -1,9 +1,9 @@
 // Numbers in decimal.
-ghost use Rattle.std.specs.Prelude.{◌+◌, ◌≤◌, ◌<◌, length};
+ghost use Rattle.std.specs.Prelude.{length};
 ghost use Rattle.ground.specs.Decimals.{decimal};
-ghost use Rattle.ground.specs.Writes.{Counted, Wrote};
+ghost use Rattle.ground.specs.Writes.{Counted, Appended, Room};
 
-use crate::writing::write_byte;
+use crate::writing::Writer;
 
 // How many digits a number has.
 pub fn decimal_len(n: u8) -> usize
@@ -16,25 +16,23 @@ pub fn decimal_len(n: u8) -> usize
     }
 }
 
-// Of a number below 100.
-fn write_small(out: &mut [u8], at: usize, n: u8) -> usize
-    requires { (n < 100) × (at + length (decimal n) ≤ length out.old) }
-    ensures { Wrote out.old at (decimal n) out.new result }
-{
-    if n < 10 {
-        return write_byte(out, at, 0x30 + n);
+impl<'a> Writer<'a> {
+    // Its digits.
+    pub fn decimal(&mut self, n: u8)
+        requires { Room self.old (length (decimal n)) }
+        ensures { Appended self.old (decimal n) self.new }
+    {
+        match n {
+            0..=9 => self.byte(b'0' + n),
+            10..=99 => {
+                self.byte(b'0' + n / 10);
+                self.byte(b'0' + n % 10);
+            }
+            _ => {
+                self.byte(b'0' + n / 100);
+                self.byte(b'0' + n / 10 % 10);
+                self.byte(b'0' + n % 10);
+            }
+        }
     }
-    let next = write_byte(out, at, 0x30 + n / 10);
-    write_byte(out, next, 0x30 + n % 10)
-}
-
-pub fn write_decimal(out: &mut [u8], at: usize, n: u8) -> usize
-    requires { at + length (decimal n) ≤ length out.old }
-    ensures { Wrote out.old at (decimal n) out.new result }
-{
-    if n < 100 {
-        return write_small(out, at, n);
-    }
-    let next = write_small(out, at, n / 10);
-    write_byte(out, next, 0x30 + n % 10)
 }

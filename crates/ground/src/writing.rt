@@ -1,23 +1,30 @@
-// Bytes written into a lent buffer. Each writer takes the place to start at, and returns the place after what it wrote.
-ghost use Rattle.std.specs.Prelude.{[], ◌∷◌, ◌+◌, ◌≤◌, length};
-ghost use Rattle.ground.specs.Writes.{Wrote};
+// Bytes written one after the other into a lent buffer.
+ghost use Rattle.std.specs.Prelude.{[], ◌∷◌, ◌≡◌, length};
 
-pub fn write_byte(out: &mut [u8], at: usize, byte: u8) -> usize
-    requires { at + 1 ≤ length out.old }
-    ensures { Wrote out.old at (byte ∷ []) out.new result }
-{
-    out[at] = byte;
-    at + 1
+// A lent buffer, and how many bytes at its front are taken.
+#[derive(Drop)]
+pub struct Writer<'a> {
+    pub bytes: &'a mut [u8],
+    pub len: usize,
 }
 
-pub fn write_bytes(out: &mut [u8], at: usize, bytes: &[u8]) -> usize
-    requires { at + length bytes.now ≤ length out.old }
-    ensures { Wrote out.old at bytes.now out.new result }
-{
-    let mut i = 0;
-    while i < bytes.len() {
-        out[at + i] = bytes[i];
-        i += 1;
+impl<'a> Writer<'a> {
+    ghost use Rattle.ground.specs.Writes.{Appended, Room};
+
+    pub fn byte(&mut self, byte: u8)
+        requires { Room self.old 1 }
+        ensures { Appended self.old (byte ∷ []) self.new }
+    {
+        self.bytes[self.len] = byte;
+        self.len += 1;
     }
-    at + i
+
+    pub fn bytes(&mut self, bytes: &[u8])
+        requires { Room self.old (length bytes.now) }
+        ensures { Appended self.old bytes.now self.new }
+    {
+        let end = self.len + bytes.len();
+        self.bytes[self.len..end].copy_from_slice(bytes);
+        self.len = end;
+    }
 }

@@ -82,7 +82,7 @@ line-ends : (r : List ℕ) → line_count (line r) ≡ 1
 unfolding line_count
 line-ends r =
     let n = length (trimmed (map sign r)) in
-    let none : line_count (encoded (trimmed (map sign r))) ≡ 0 = rw (← left-signs r n refl) (signs-unbroken (take n r)) in
+    let none : line_count (encoded (trimmed (map sign r))) ≡ 0 = rw (← left-signs r) (signs-unbroken (take n r)) in
     omega (arith, count-append (encoded (trimmed (map sign r))) (0x0A ∷ []))
 
 -- a line for each row

@@ -6,7 +6,7 @@ use native.Mathlib.Numerals.{add-one}
 use native.Mathlib.Omega.{arith}
 use lib.Dec.{eqb}
 use lib.ListN.{length, get_or, take, length-map, length-take}
-use lib.Seq.{take-suc, length-take-le}
+use lib.Seq.{take-suc, take-length}
 use borrow.Author.Tests.{ne_eqb}
 use Rattle.ground.proofs.ListLaws.{take-map}
 use Rattle.ground.proofs.TestLaws.{either}
@@ -42,28 +42,30 @@ trimmed-front (x ∷ xs) = go (trimmed xs) (trimmed-front xs)
 pub signs-more : (r : List ℕ) (i : ℕ) → i < length r → map sign (take (i + 1) r) ≡ map sign (take i r) ++ (sign (get_or r i 0) ∷ [])
 signs-more r i h = rw add-one (ap (map sign) (take-suc r i 0 h) ∙ map-append sign (take i r) (get_or r i 0 ∷ []))
 
--- the first n cells of a row, and their last
-module _ (r : List ℕ) (n : ℕ) (some : 0 < n) (h : n ≤ length r) where
-  signs-last : map sign (take n r) ≡ map sign (take (n - 1) r) ++ (sign (get_or r (n - 1) 0) ∷ [])
-  signs-last = let e : n - 1 + 1 ≡ n = omega arith in rw e at (signs-more r (n - 1) (omega arith))
+-- no cells
+pub trim_none : (r : List ℕ) → length r < 1 → trimmed (map sign r) ≡ map sign r
+unfolding trimmed
+trim_none [] h = refl
+trim_none (x ∷ r) h = absurd (omega arith)
 
-  pub trim-more : sign (get_or r (n - 1) 0) ≡ 0x20 → trimmed (map sign (take n r)) ≡ trimmed (map sign (take (n - 1) r))
-  trim-more e = rw (signs-last, e) (trimmed-space (map sign (take (n - 1) r)))
+-- some cells, and their last
+module _ (r : List ℕ) (some : 0 < length r) where
+  signs-last : map sign r ≡ map sign (take (length r - 1) r) ++ (sign (get_or r (length r - 1) 0) ∷ [])
+  signs-last =
+      let e : length r - 1 + 1 ≡ length r = omega arith in
+      rw (e, take-length r) at (signs-more r (length r - 1) (omega arith))
 
-  pub trim-stop : (sign (get_or r (n - 1) 0) ≡ 0x20 → ⊥) → length (trimmed (map sign (take n r))) ≡ n
-  trim-stop ne =
-      let all = trimmed-sign (map sign (take (n - 1) r)) (sign (get_or r (n - 1) 0)) ne in
-      rw (signs-last, all, ← signs-last, length-map) (length-take-le n r h)
+  pub trim-more : sign (get_or r (length r - 1) 0) ≡ 0x20 → trimmed (map sign r) ≡ trimmed (map sign (take (length r - 1) r))
+  trim-more e = rw (signs-last, e) (trimmed-space (map sign (take (length r - 1) r)))
+
+  pub trim-stop : (sign (get_or r (length r - 1) 0) ≡ 0x20 → ⊥) → trimmed (map sign r) ≡ map sign r
+  trim-stop ne = rw signs-last (trimmed-sign (map sign (take (length r - 1) r)) (sign (get_or r (length r - 1) 0)) ne)
 
 pub trimmed-within : (r : List ℕ) → length (trimmed (map sign r)) ≤ length r
 trimmed-within r =
     let e = ap length (trimmed-front (map sign r)) in
     omega (arith, e ∙ length-take (length (trimmed (map sign r))) (map sign r), length-map r sign)
 
--- the cells that are left, and their signs
-module _ (r : List ℕ) (n : ℕ) (e : n ≡ length (trimmed (map sign r))) where
-  pub left-count : n ≡ length (take n r)
-  left-count = sym (length-take-le n r (omega (arith, trimmed-within r)))
-
-  pub left-signs : map sign (take n r) ≡ trimmed (map sign r)
-  left-signs = sym (take-map sign n r) ∙ rw e (sym (trimmed-front (map sign r)))
+-- the cells that are left have the signs that are left
+pub left-signs : (r : List ℕ) → map sign (take (length (trimmed (map sign r))) r) ≡ trimmed (map sign r)
+left-signs r = sym (take-map sign (length (trimmed (map sign r))) r) ∙ sym (trimmed-front (map sign r))

@@ -11,6 +11,7 @@ ghost use Rattle.text.specs.Text.{page_text, written_number, written};
 ghost use Rattle.ground.specs.Writes.{Wrote};
 
 use crate::lines::{line_len, write_line};
+use ground::writing::Writer;
 
 // What writing a page as text answers.
 #[derive(Clone, Copy)]
@@ -26,21 +27,16 @@ fn row_of(page: &[u16], k: usize) -> &[u16]
     requires { 80 * k + 80 ≤ length page.now }
     ensures { result.now ≡ row page.now k }
 {
-    let from = 80 * k;
-    let to = from + 80;
-    &page[from..to]
+    &page[80 * k..80 * k + 80]
 }
 
 // How many bytes the text of a page takes. Cells past its last whole row do not count.
 pub fn text_len(page: &[u16]) -> usize
     ensures { result ≡ length (page_text page.now) }
 {
-    let rows = page.len() / 80;
     let mut len = 0;
-    let mut row = 0;
-    while row < rows {
-        len += line_len(row_of(page, row));
-        row += 1;
+    for k in 0..page.len() / 80 {
+        len += line_len(row_of(page, k));
     }
     len
 }
@@ -50,14 +46,11 @@ fn write_rows(page: &[u16], out: &mut [u8]) -> usize
     requires { length (page_text page.now) ≤ length out.old }
     ensures { Wrote out.old 0 (page_text page.now) out.new result }
 {
-    let rows = page.len() / 80;
-    let mut next = 0;
-    let mut row = 0;
-    while row < rows {
-        next = write_line(row_of(page, row), out, next);
-        row += 1;
+    let mut writer = Writer { bytes: out, len: 0 };
+    for k in 0..page.len() / 80 {
+        write_line(row_of(page, k), &mut writer);
     }
-    next
+    writer.len
 }
 
 // Writes the text of a page into a buffer, whole or not at all.

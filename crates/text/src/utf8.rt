@@ -1,33 +1,36 @@
 // UTF-8, of the code points below 10000.
-ghost use Rattle.std.specs.Prelude.{◌≡◌, ◌+◌, ◌≤◌, length};
+ghost use Rattle.std.specs.Prelude.{◌≡◌, length};
 ghost use Rattle.text.specs.Text.{utf8};
-ghost use Rattle.ground.specs.Writes.{Wrote};
+ghost use Rattle.ground.specs.Writes.{Room, Appended};
 
-use ground::writing::write_byte;
+use ground::writing::Writer;
 
 // How many bytes a code point takes.
 pub fn utf8_len(code: u16) -> usize
     ensures { result ≡ length (utf8 code) }
 {
-    if code < 0x80 {
-        return 1;
+    match code {
+        0..0x80 => 1,
+        0x80..0x800 => 2,
+        _ => 3,
     }
-    if code < 0x800 { 2 } else { 3 }
 }
 
-// Writes a code point, and returns the place after it.
-pub fn write_utf8(out: &mut [u8], at: usize, code: u16) -> usize
-    requires { at + length (utf8 code) ≤ length out.old }
-    ensures { Wrote out.old at (utf8 code) out.new result }
+// Writes a code point.
+pub fn write_utf8(out: &mut Writer, code: u16)
+    requires { Room out.old (length (utf8 code)) }
+    ensures { Appended out.old (utf8 code) out.new }
 {
-    if code < 0x80 {
-        return write_byte(out, at, code as u8);
+    match code {
+        0..0x80 => out.byte(code as u8),
+        0x80..0x800 => {
+            out.byte((0xC0 + code / 64) as u8);
+            out.byte((0x80 + code % 64) as u8);
+        }
+        _ => {
+            out.byte((0xE0 + code / 4096) as u8);
+            out.byte((0x80 + code / 64 % 64) as u8);
+            out.byte((0x80 + code % 64) as u8);
+        }
     }
-    if code < 0x800 {
-        let second = write_byte(out, at, (0xC0 + code / 64) as u8);
-        return write_byte(out, second, (0x80 + code % 64) as u8);
-    }
-    let second = write_byte(out, at, (0xE0 + code / 4096) as u8);
-    let third = write_byte(out, second, (0x80 + code / 64 % 64) as u8);
-    write_byte(out, third, (0x80 + code % 64) as u8)
 }

@@ -1,5 +1,5 @@
 use mathlib.Core.Path.{◌≡◌, refl}
-use Prim.Native.Nat.{◌+◌, ◌/◌}
+use Prim.Native.Nat.{◌+◌}
 use native.Mathlib.Omega.{arith}
 use lib.ListN.{length}
 use Rattle.text.specs.Text.{lines, text_of}
@@ -9,22 +9,16 @@ use Rattle.text.proofs.text_len.Goals.{After-line_len-len}
 
 -- the sum of a turn
 total : (c : After-line_len-len)
-    → c.loop-row.len + c.line_len-len.result ≡ length (text_of (c.loop-row.row + 1) c.args.page.now)
+    → c.loop-k.len + c.line_len-len.result ≡ length (text_of (c.loop-k.k + 1) c.args.page.now)
 total c =
-    rw (text-more-length, ← c.row_of.ensures, ← c.line_len-len.ensures, ← c.loop-row.invariant.1)
+    rw (text-more-length, ← c.row_of.ensures, ← c.line_len-len.ensures, ← c.loop-k.invariant)
 
-pub loop-row-init : goal.loop-row-init
+pub loop-k-init : goal.loop-k-init
 unfolding lines text_of
-loop-row-init c = (omega arith, refl)
+loop-k-init c = refl
 
 pub overflow_add-len : goal.overflow_add-len
-unfolding lines text_of
-overflow_add-len c = omega (arith, total (goal.at.overflow_add-len c).After-line_len-len, text-short (c.loop-row.row + 1) c.args.page.now)
+overflow_add-len c = omega (arith, total (goal.at.overflow_add-len c).After-line_len-len, text-short (c.loop-k.k + 1) c.args.page.now)
 
-pub loop-row-preserved : goal.loop-row-preserved
-unfolding lines text_of
-loop-row-preserved c = (omega arith, total (goal.at.loop-row-preserved c).After-line_len-len)
-
-pub returns : goal.returns
-unfolding lines text_of
-returns c = let all : c.loop-row.row ≡ length c.args.page.now / 80 = omega arith in rw all at c.loop-row.invariant.1
+pub loop-k-preserved : goal.loop-k-preserved
+loop-k-preserved c = total (goal.at.loop-k-preserved c).After-line_len-len

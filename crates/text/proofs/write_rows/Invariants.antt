@@ -1,11 +1,7 @@
--- `text::write_rows` meets its contract. The loop's invariant: the text of the first rows was written.
-use Prim.Native.Nat.{◌-◌, ◌≤◌}
+-- The loop's invariant: the text of the first rows was written.
 use Rattle.text.specs.Text.{text_of}
-use Rattle.ground.specs.Writes.{Wrote}
+use Rattle.ground.specs.Writes.{Appended}
 use Rattle.text.proofs.write_rows.Given as goal
 
-abbrev pub invariant-loop-row : goal.invariant-loop-row
-invariant-loop-row l = (l.row ≤ l.rows) × Wrote l.initial.out 0 (text_of l.row l.page) l.out l.next
-
-abbrev pub decreases-loop-row : goal.decreases-loop-row
-decreases-loop-row l = l.rows - l.row
+abbrev pub invariant-loop-k : goal.invariant-loop-k
+invariant-loop-k l = Appended l.initial.writer (text_of l.k l.page) l.writer

@@ -2,29 +2,23 @@ use mathlib.Core.Path.{ap}
 use Prim.Native.Nat.{ℕ, ◌+◌}
 use native.Mathlib.Omega.{arith}
 use lib.ListN.{length}
-use lib.Seq.{take_all}
 use Rattle.text.specs.Text.{utf8, encoded}
-use Rattle.ground.proofs.WriteLaws.{wrote_none, wrote-more}
+use Rattle.ground.proofs.WriteLaws.{append_none, append-more}
 use Rattle.text.proofs.Encoding.{encoded-more, encoded-more-length, encoded-part}
 use Rattle.text.proofs.lines.write_signs.Goals as goal
 
-pub loop-i-init : goal.loop-i-init
+pub loop-word-init : goal.loop-word-init
 unfolding encoded
-loop-i-init c = (omega arith, wrote_none _ _)
+loop-word-init c = append_none _
 
-pub write_utf8-next-requires : goal.write_utf8-next-requires
-unfolding encoded
-write_utf8-next-requires c =
+pub write_utf8-requires : goal.write_utf8-requires
+write_utf8-requires c =
     let cells = c.args.cells.now in
+    let k = c.loop-word.word-index in
     let bytes = ap (λ (x : ℕ). length (utf8 x)) c.sign.ensures in
-    omega (arith, encoded-more-length cells c.loop-i.i (omega arith), encoded-part (c.loop-i.i + 1) cells)
+    omega (arith, c.requires, c.loop-word.invariant.wrote, encoded-more-length cells k (omega arith), encoded-part (k + 1) cells)
 
-pub loop-i-preserved : goal.loop-i-preserved
-unfolding encoded
-loop-i-preserved c =
-    let more = encoded-more c.args.cells.now c.loop-i.i (omega arith) in
-    (omega arith, rw (more, ← c.sign.ensures) (wrote-more c.loop-i.invariant.1 c.write_utf8-next.ensures))
-
-pub returns : goal.returns
-unfolding encoded
-returns c = rw (take_all _ _ c.loop-i-test.false) at c.loop-i.invariant.1
+pub loop-word-preserved : goal.loop-word-preserved
+loop-word-preserved c =
+    let more = encoded-more c.args.cells.now c.loop-word.word-index (omega arith) in
+    rw (more, ← c.sign.ensures) (append-more c.loop-word.invariant c.write_utf8.ensures)
