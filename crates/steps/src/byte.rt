@@ -17,22 +17,21 @@ pub struct AfterByte {
 }
 
 // Its step or steps, after which its rows are joined to those that changed before. `byte` is there for the promise alone.
-pub fn step(core: Core, changed: u64, byte: u8, decoded: Decoded, page: &mut [u16]) -> AfterByte
+pub fn step(
+    mut core: Core,
+    changed: u64,
+    byte: u8,
+    decoded: Decoded,
+    page: &mut [u16],
+) -> AfterByte
     requires { Paged core page.old × (decoded ≡ decode core.parser byte) }
     ensures { display result.core page.new result.changed ≡ acts (display core page.old changed) byte }
 {
-    let mut core = core;
-    let rows = core.rows;
-    let parser = decoded.parser;
-    let action = decoded.action;
-    core.parser = parser;
-    let decision = execute(core, action);
-    let next = decision.core;
-    let first = decision.first;
-    let second = decision.second;
-    let one = apply(first, page, rows, changed);
+    core.parser = decoded.parser;
+    let decision = execute(core, decoded.action);
+    let one = apply(decision.first, page, core.rows, changed);
     AfterByte {
-        core: next,
-        changed: apply(second, page, rows, one),
+        core: decision.core,
+        changed: apply(decision.second, page, core.rows, one),
     }
 }
