@@ -1,10 +1,8 @@
 -- Characters: one is one step, which moves the cursor and puts or inserts a cell; several in a row are a paste.
-use Rattle.std.proofs.Common.{◌≡◌, ℕ, zero, suc, ◌+◌, ◌-◌, ◌*◌, ◌^◌, ◌<◌, ◌≤◌, Bool, true, false, not, ◌&&◌, ◌||◌, eqb, leb, List, [], ◌∷◌, map, length, get_or, take, drop, set, sym, refl, ap, ◌∙◌, ap₂, ⊎_elim, add-zero, zero-mul, add-one, arith, length-drop, get_or-drop, le-ltb, lt-ltb, ne_eqb, eqb-true, le-leb}
+use Rattle.std.proofs.Common.{◌≡◌, ℕ, zero, suc, ◌+◌, ◌-◌, ◌*◌, ◌^◌, ◌<◌, ◌≤◌, Bool, true, false, not, ◌&&◌, ◌||◌, eqb, leb, List, map, length, get_or, take, drop, set, sym, refl, ap, ◌∙◌, ap₂, ⊎_elim, add-zero, zero-mul, add-one, arith, length-drop, get_or-drop, le-ltb, lt-ltb, ne_eqb, eqb-true, le-leb}
 use mathlib.Core.Bool.{false≢true, and-false}
 use lib.Bits.{bit_or, or_zero_r, or_self}
 use lib.Seq.{paste, paste-zero}
-use denote.Enum.Declared.{tag_of}
-use types.Run.{OneOf, miss}
 use borrow.Author.Tests.{lt-leb, not-true}
 use Rattle.ground.proofs.ListLaws.{split-lt, get_d_map}
 use Rattle.ground.proofs.TestLaws.{and_left, and_right, or_cases, between-low, between-high}
@@ -28,7 +26,6 @@ use Rattle.parser.specs.Phases.{is_ground}
 use Rattle.parser.specs.declared.parser.Decoded.{Decoded}
 use Rattle.device.specs.declared.charsets.SingleShift.{SingleShift}
 use Rattle.device.specs.declared.charsets.SingleShift.TheVariants.{NoShift, Ss2, Ss3}
-use Rattle.device.specs.contracts.charsets.SingleShift as shift
 use Rattle.device.specs.Charsets.{has96}
 use Rattle.device.specs.declared.cursor.Cursor.{Cursor}
 use Rattle.device.specs.Cursor.{advance}
@@ -55,15 +52,6 @@ pub unshifted-is : (x : SingleShift) → is_unshifted x ≡ true → x ≡ NoShi
 unshifted-is NoShift e = refl
 unshifted-is Ss2 e = absurd (false≢true e)
 unshifted-is Ss3 e = absurd (false≢true e)
-
--- the shifts that a `match` leaves to its last arm
-abbrev other_shifts : List ℕ
-other_shifts = 1 ∷ 2 ∷ []
-
-pub shifted : (x : SingleShift) → OneOf other_shifts (tag_of shift.the_type x) → false ≡ is_unshifted x
-shifted NoShift h = absurd (miss other_shifts 0 tt h)
-shifted Ss2 h = refl
-shifted Ss3 h = refl
 
 -- 20 to 7E or A1 to FE
 record Character (b : ℕ) : Type 0 where

@@ -7,6 +7,7 @@ ghost use Rattle.core_state.specs.Pens.{pen_of};
 ghost use Rattle.spans.specs.Spans.{Spanned, ByteDone};
 ghost use Rattle.spans.specs.Characters.{Direct, advance_by};
 
+use cells::COLUMNS;
 use cells::marks::row_bit;
 use cells::runs::{Pen, pen_word, put_characters};
 use core_state::Core;
@@ -39,12 +40,11 @@ fn put_one(core: Core, changed: u64, pen: Pen, byte: u8, page: &mut [u16]) -> Mo
     requires { Direct core page.old × (is_character byte ≡ true) × (pen ≡ pen_of core.rendition core.protected core.sets) }
     ensures { ByteDone core changed page.old byte (with_cursor core result.cursor) result.changed page.new }
 {
-    let cursor = core.cursor;
     let word = pen_word(pen, byte);
-    let row = cursor.row - 1;
-    let column = cursor.column - 1;
+    let row = core.cursor.row - 1;
+    let column = core.cursor.column - 1;
     let last = right_stop(core);
-    let next = cursor.advance(last, core.modes.autowrap);
+    let next = core.cursor.advance(last, core.modes.autowrap);
     if core.modes.insert {
         let edit = Edit::InsertCells {
             row,
@@ -66,27 +66,13 @@ fn put_one(core: Core, changed: u64, pen: Pen, byte: u8, page: &mut [u16]) -> Mo
 
 // ---- as many as have room in the row
 
-// How many of `left` have room from a column on.
-fn room(column: u8, left: usize) -> usize
-    requires { column ≤ 80 }
-    ensures { (column + result ≤ 81) × (result ≤ left) }
-{
-    let most = 81 - column as usize;
-    if left < most { left } else { most }
-}
-
 fn advance_by(mut cursor: Cursor, count: usize, autowrap: bool) -> Cursor
     requires { cursor.column + count ≤ 81 }
     ensures { result ≡ advance_by cursor count autowrap }
 {
     let next = cursor.column as usize + count;
-    if next <= 80 {
-        cursor.column = next as u8;
-        cursor.wrap = false;
-        return cursor;
-    }
-    cursor.column = 80;
-    cursor.wrap = autowrap;
+    cursor.column = next.min(COLUMNS) as u8;
+    cursor.wrap = autowrap & (COLUMNS < next);
     cursor
 }
 
@@ -102,13 +88,13 @@ fn put_row(
         × (pen ≡ pen_of core.rendition core.protected core.sets) }
     ensures { Spanned core changed page.old input.now from result.next (with_cursor core result.cursor) result.changed page.new }
 {
-    let cursor = core.cursor;
-    let at = place(cursor.row - 1, cursor.column - 1);
-    let most = room(cursor.column, input.len() - from);
-    let done = put_characters(page, at, most, input, from, pen);
+    let row = core.cursor.row - 1;
+    let column = core.cursor.column - 1;
+    let most = (input.len() - from).min(COLUMNS - column as usize);
+    let done = put_characters(page, place(row, column), most, input, from, pen);
     Characters {
-        cursor: advance_by(cursor, done.count, core.modes.autowrap),
-        changed: changed | row_bit(cursor.row - 1, done.changed),
+        cursor: advance_by(core.cursor, done.count, core.modes.autowrap),
+        changed: changed | row_bit(row, done.changed),
         next: from + done.count,
     }
 }
@@ -118,11 +104,7 @@ fn put_row(
 fn plain_at(input: &[u8], at: usize) -> bool
     ensures { result ≡ (nat_lt at (length input.now) && tests.between 0x20 (slice_index input.now at) 0x7E) }
 {
-    if at < input.len() {
-        between(0x20, input[at], 0x7E)
-    } else {
-        false
-    }
+    input.get(at).is_some_and(|&byte| between(0x20, byte, 0x7E))
 }
 
 // Whether more are to be put in the row.
@@ -136,7 +118,7 @@ fn goes_on(insert: bool, cursor: Cursor, input: &[u8], at: usize) -> bool
 }
 
 pub fn put_some(
-    core: Core,
+    mut core: Core,
     changed: u64,
     pen: Pen,
     page: &mut [u16],
@@ -149,15 +131,13 @@ pub fn put_some(
         × (from < result.next) }
 {
     let first = put_one(core, changed, pen, input[from], page);
-    let cursor = first.cursor;
     let next = from + 1;
-    if goes_on(core.modes.insert, cursor, input, next) {
-        let mut core = core;
-        core.cursor = cursor;
+    if goes_on(core.modes.insert, first.cursor, input, next) {
+        core.cursor = first.cursor;
         return put_row(core, first.changed, pen, page, input, next);
     }
     Characters {
-        cursor,
+        cursor: first.cursor,
         changed: first.changed,
         next,
     }

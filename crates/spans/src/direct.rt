@@ -16,7 +16,6 @@ use core_state::Core;
 use core_state::geometry::{left_stop, right_stop};
 use core_state::glyphs::{is_edge, skipped, used_set};
 use device::charsets::SingleShift;
-use device::cursor::Cursor;
 use dispatch::touches::{control_touch, is_direct};
 use page::edits::apply;
 use parser::phases::is_ground;
@@ -35,10 +34,7 @@ const ESC: u8 = 0x1B;
 fn is_unshifted(shift: SingleShift) -> bool
     ensures { result ≡ is_unshifted shift }
 {
-    match shift {
-        SingleShift::NoShift => true,
-        _ => false,
-    }
+    matches!(shift, SingleShift::NoShift)
 }
 
 // A character with no shift pending and no wrap due, one that is ignored, or a control. ESC is none, and is told first: it is what
@@ -46,21 +42,17 @@ fn is_unshifted(shift: SingleShift) -> bool
 pub fn acts_directly(core: Core, byte: u8) -> bool
     ensures { result ≡ acts_directly core byte }
 {
-    let parser = core.parser;
-    let phase = parser.phase;
-    let shift = core.shift;
     if byte == ESC {
         return false;
     }
-    if !is_ground(phase) {
+    if !is_ground(core.parser.phase) {
         return false;
     }
     if is_character(byte) {
-        return is_unshifted(shift) & !core.cursor.wrap;
+        return is_unshifted(core.shift) & !core.cursor.wrap;
     }
     if is_edge(byte) {
-        let sets = core.sets;
-        return skipped(used_set(sets, shift, byte), byte);
+        return skipped(used_set(core.sets, core.shift, byte), byte);
     }
     is_direct(byte)
 }
@@ -71,11 +63,9 @@ fn control_step(core: Core, changed: u64, byte: u8, page: &mut [u16]) -> Moved
     ensures { ByteDone core changed page.old byte (with_cursor core result.cursor) result.changed page.new }
 {
     let touch = control_touch(core, byte);
-    let cursor = touch.cursor;
-    let edit = touch.edit;
     Moved {
-        cursor,
-        changed: apply(edit, page, core.rows, changed),
+        cursor: touch.cursor,
+        changed: apply(touch.edit, page, core.rows, changed),
     }
 }
 
@@ -86,27 +76,16 @@ fn scrolls_lines(core: Core, changed: u64) -> bool
     ensures { result ≡ scrolls_lines core changed }
 {
     let margins = core.margins;
-    let shift = core.shift;
     if core.cursor.row != margins.bottom {
         return false;
     }
     if core.modes.insert | core.modes.autowrap {
         return false;
     }
-    if !is_unshifted(shift) | (margins.bottom <= margins.top) {
+    if !is_unshifted(core.shift) | (margins.bottom <= margins.top) {
         return false;
     }
     all_known(changed, margins.top - 1, margins.bottom)
-}
-
-fn moved(cursor: Cursor, changed: u64, next: usize) -> Characters
-    ensures { result ≡ record { cursor = cursor; changed = changed; next = next } }
-{
-    Characters {
-        cursor,
-        changed,
-        next,
-    }
 }
 
 fn feed_lines(
@@ -162,24 +141,35 @@ pub fn act_directly(
     if is_character(byte) {
         return put_some(core, changed, pen, page, input, from);
     }
-    if byte == LF {
-        if scrolls_lines(core, changed) {
-            return feed_lines(core, changed, pen, page, input, from);
-        }
+    if byte == LF && scrolls_lines(core, changed) {
+        return feed_lines(core, changed, pen, page, input, from);
     }
     let next = from + 1;
-    let cursor = core.cursor;
     if byte == CR {
-        return moved(cursor.to_column(left_stop(core)), changed, next);
+        return Characters {
+            cursor: core.cursor.to_column(left_stop(core)),
+            changed,
+            next,
+        };
     }
     if byte == HT {
-        let tabs = core.tabs;
-        return moved(cursor.tab(tabs, right_stop(core)), changed, next);
+        return Characters {
+            cursor: core.cursor.tab(core.tabs, right_stop(core)),
+            changed,
+            next,
+        };
     }
     if is_edge(byte) {
-        return moved(cursor, changed, next);
+        return Characters {
+            cursor: core.cursor,
+            changed,
+            next,
+        };
     }
     let done = control_step(core, changed, byte, page);
-    let cursor = done.cursor;
-    moved(cursor, done.changed, next)
+    Characters {
+        cursor: done.cursor,
+        changed: done.changed,
+        next,
+    }
 }

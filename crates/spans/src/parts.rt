@@ -35,12 +35,12 @@ pub struct Parts {
 // SGR.
 const SGR: u8 = 0x6D;
 
-fn with_parts(mut core: Core, cursor: Cursor, rendition: Rendition, parser: Parser) -> Core
-    ensures { result ≡ whole.with_parts core cursor rendition parser }
+fn with_parts(mut core: Core, parts: Parts) -> Core
+    ensures { result ≡ whole.with_parts core parts.cursor parts.rendition parts.parser }
 {
-    core.cursor = cursor;
-    core.rendition = rendition;
-    core.parser = parser;
+    core.cursor = parts.cursor;
+    core.rendition = parts.rendition;
+    core.parser = parts.parser;
     core
 }
 
@@ -48,8 +48,7 @@ fn with_parts(mut core: Core, cursor: Cursor, rendition: Rendition, parser: Pars
 fn in_plain_sequence(parser: Parser) -> bool
     ensures { result ≡ whole.in_plain_sequence parser }
 {
-    let phase = parser.phase;
-    takes_parameters(phase) & (parser.mark == 0)
+    takes_parameters(parser.phase) & (parser.mark == 0)
 }
 
 // The end of a control sequence that moves the cursor and cells.
@@ -58,77 +57,59 @@ fn sequence_step(core: Core, changed: u64, last: u8, page: &mut [u16]) -> Moved
     ensures { ByteDone core changed page.old last
         (with_cursor (with_parser core (in_phase Ground core.parser)) result.cursor) result.changed page.new }
 {
-    let parser = core.parser;
-    let params = parser.params;
+    let params = core.parser.params;
     let touch = sequence_touch(core, params.get(0), params.get(1), last);
-    let cursor = touch.cursor;
-    let edit = touch.edit;
     Moved {
-        cursor,
-        changed: apply(edit, page, core.rows, changed),
+        cursor: touch.cursor,
+        changed: apply(touch.edit, page, core.rows, changed),
     }
 }
 
-fn stopped(cursor: Cursor, rendition: Rendition, parser: Parser, changed: u64, next: usize) -> Parts
-    ensures { result ≡ record { cursor = cursor; rendition = rendition; parser = parser; changed = changed; next = next } }
-{
-    Parts {
-        cursor,
-        rendition,
-        parser,
-        changed,
-        next,
-    }
-}
-
-// As many as there are from here on.
+// As many as there are from here on. A while, since they are done many at a time.
 pub fn feed_parts(core: Core, changed: u64, page: &mut [u16], input: &[u8], from: usize) -> Parts
     requires { Paged core page.old × (from ≤ length input.now) }
     ensures { Spanned core changed page.old input.now from result.next
         (whole.with_parts core result.cursor result.rendition result.parser) result.changed page.new }
 {
-    let sets = core.sets;
-    let mut cursor = core.cursor;
-    let mut rendition = core.rendition;
-    let mut parser = core.parser;
-    let mut pen = pen_of(rendition, core.protected, sets);
-    let mut changed = changed;
-    let mut i = from;
-    while i < input.len() {
-        let at = with_parts(core, cursor, rendition, parser);
-        if acts_directly(at, input[i]) {
-            let done = act_directly(at, changed, pen, page, input, i);
-            cursor = done.cursor;
-            changed = done.changed;
-            i = done.next;
+    let mut parts = Parts {
+        cursor: core.cursor,
+        rendition: core.rendition,
+        parser: core.parser,
+        changed,
+        next: from,
+    };
+    let mut pen = pen_of(core.rendition, core.protected, core.sets);
+    while parts.next < input.len() {
+        let at = with_parts(core, parts);
+        if acts_directly(at, input[parts.next]) {
+            let done = act_directly(at, parts.changed, pen, page, input, parts.next);
+            parts.cursor = done.cursor;
+            parts.changed = done.changed;
+            parts.next = done.next;
         } else {
-            let idle = skip_idle(parser, input, i);
-            parser = idle.parser;
-            i = idle.next;
-            if i < input.len() {
-                let last = input[i];
-                if !in_plain_sequence(parser) {
-                    return stopped(cursor, rendition, parser, changed, i);
+            let idle = skip_idle(parts.parser, input, parts.next);
+            parts.parser = idle.parser;
+            parts.next = idle.next;
+            if parts.next < input.len() {
+                let last = input[parts.next];
+                if !in_plain_sequence(parts.parser) {
+                    return parts;
                 }
                 if is_touch(last) {
-                    let at = with_parts(core, cursor, rendition, parser);
-                    let done = sequence_step(at, changed, last, page);
-                    cursor = done.cursor;
-                    changed = done.changed;
-                    parser = parser.in_phase(Phase::Ground);
-                    i += 1;
+                    let done = sequence_step(with_parts(core, parts), parts.changed, last, page);
+                    parts.cursor = done.cursor;
+                    parts.changed = done.changed;
                 } else if last == SGR {
-                    let params = parser.params;
-                    let next = rendition_after(rendition, params);
-                    pen = pen_of(next, core.protected, sets);
-                    rendition = next;
-                    parser = parser.in_phase(Phase::Ground);
-                    i += 1;
+                    let next = rendition_after(parts.rendition, parts.parser.params);
+                    pen = pen_of(next, core.protected, core.sets);
+                    parts.rendition = next;
                 } else {
-                    return stopped(cursor, rendition, parser, changed, i);
+                    return parts;
                 }
+                parts.parser = parts.parser.in_phase(Phase::Ground);
+                parts.next += 1;
             }
         }
     }
-    stopped(cursor, rendition, parser, changed, i)
+    parts
 }

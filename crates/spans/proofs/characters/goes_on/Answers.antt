@@ -1,6 +1,5 @@
 -- Each test that fails tells one of the facts.
 use Rattle.std.proofs.Common.{ltb, leb, length, get_or, sym, ◌∙◌, ltb-true, leb-false}
-use mathlib.Core.Bool.{false≢true}
 use Rattle.ground.specs.Tests.{between}
 use Rattle.ground.proofs.TestLaws.{and_left, or_left, or_right}
 use Rattle.spans.proofs.characters.goes_on.Goals as goal
@@ -13,6 +12,3 @@ returns c h =
       leb-false 80 a.cursor.column (or_right a.insert (leb 80 a.cursor.column) c.if-insert-cursor.false),
       ltb-true a.at n (and_left (ltb a.at n) (between 0x20 (get_or a.input.now a.at 0) 0x7E) (sym c.plain_at.ensures ∙ h)),
     )
-
-pub returns-then-insert-cursor : goal.returns-then-insert-cursor
-returns-then-insert-cursor c h = absurd (false≢true h)

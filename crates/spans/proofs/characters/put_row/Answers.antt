@@ -10,24 +10,7 @@ pub put_characters-done-requires : goal.put_characters-done-requires
 put_characters-done-requires c =
     let b = c.requires.0.paged.whole.parts.bounds in
     let size = c.requires.0.paged.size in
-    (omega (arith, c.place-at.ensures, c.room-most.ensures), omega (arith, c.room-most.ensures), rw c.requires.3 (pen-fits _ _ _))
-
-pub advance_by-requires : goal.advance_by-requires
-advance_by-requires c =
-    omega (arith, c.room-most.ensures, c.put_characters-done.ensures.most)
-
-pub overflow_sub-cursor-3 : goal.overflow_sub-cursor-3
-overflow_sub-cursor-3 c =
-    omega (arith, c.requires.0.paged.whole.parts.bounds.cursor.row_low)
-
-pub row_bit-requires : goal.row_bit-requires
-row_bit-requires c =
-    let b = c.requires.0.paged.whole.parts.bounds in
-    omega (arith, b.cursor.row-high, b.count.high)
-
-pub overflow_add-result : goal.overflow_add-result
-overflow_add-result c =
-    record { fits = omega (arith, c.room-most.ensures, c.put_characters-done.ensures.most, c.well_formed.1.1.1.1.0) }
+    (omega (arith, c.place.ensures, c.min-most.ensures), omega (arith, c.min-most.ensures), rw c.requires.3 (pen-fits _ _ _))
 
 pub returns : goal.returns
 returns c =
@@ -38,11 +21,11 @@ returns c =
     let k = c.put_characters-done.result.count in
     let P = c.put_characters-done.ensures in
     let s = map (pen_word pen) (drop from input) in
-    rw (c.advance_by.ensures, c.row_bit.ensures, P.pasted.page, P.pasted.flagged, c.place-at.ensures)
+    rw (c.advance_by.ensures, c.row_bit.ensures, P.pasted.page, P.pasted.flagged, c.place.ensures)
     (run-spanned core c.args.changed c.args.page.now input from s c.requires.0 c.requires.1 k (record {
-      room = omega (arith, c.room-most.ensures, P.most);
-      end = omega (arith, c.room-most.ensures, P.most);
-      words = simp (length-map, length-drop) (omega (arith, c.room-most.ensures, P.most));
+      room = omega (arith, c.min-most.ensures, P.most);
+      end = omega (arith, c.min-most.ensures, P.most);
+      words = simp (length-map, length-drop) (omega (arith, c.min-most.ensures, P.most));
       characters = P.characters;
-      glyphs = words-glyphs core pen input from c.requires.0.direct c.requires.3 k (omega (arith, c.room-most.ensures, P.most));
+      glyphs = words-glyphs core pen input from c.requires.0.direct c.requires.3 k (omega (arith, c.min-most.ensures, P.most));
     }))

@@ -23,8 +23,5 @@ pub returns-then-goes_on : goal.returns-then-goes_on
 returns-then-goes_on c =
     (spanned-append (first (goal.at.returns-then-goes_on c).After-put_one-first) c.put_row.ensures, omega (arith, c.put_row.ensures.start))
 
-pub put_one-first-requires : goal.put_one-first-requires
-put_one-first-requires c = (c.requires.0, c.requires.2, c.requires.3)
-
 pub returns : goal.returns
 returns c = (first (goal.at.returns c).After-put_one-first, omega arith)

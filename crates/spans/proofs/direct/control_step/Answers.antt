@@ -25,6 +25,3 @@ returns c =
     action-done core c.args.page.now b core.parser (control_action b) (with_cursor core c.control_touch-touch.result.cursor) _ c.requires.0
     (direct-decode core.parser b c.requires.1 c.requires.2) c.control_touch-touch.ensures
     c.args.changed c.apply.new.page c.apply.result (direct-quiet b c.requires.2) refl c.apply.ensures.page c.apply.ensures.marked
-
-pub control_touch-touch-requires : goal.control_touch-touch-requires
-control_touch-touch-requires c = (c.requires.0.whole.parts.bounds, c.requires.2)

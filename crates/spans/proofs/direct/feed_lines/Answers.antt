@@ -19,14 +19,6 @@ follows c =
     c.lines_ahead-ahead.ensures.first ∙ ap (take (length c.lines_ahead-ahead.result.text.now))
     (take_all (length input - (c.args.from + 1)) (drop (c.args.from + 1) input) (omega (arith, length-drop (c.args.from + 1) input)))
 
-pub overflow_sub-margins-2 : goal.overflow_sub-margins-2
-overflow_sub-margins-2 c = let s = there (goal.at.overflow_sub-margins-2 c).Start in omega arith
-
-pub lines_ahead-ahead-requires : goal.lines_ahead-ahead-requires
-lines_ahead-ahead-requires c =
-    let b = c.requires.0.whole.parts.bounds in
-    omega (arith, c.requires.3, b.margins.high, b.count.high)
-
 pub scroll_lines-column-requires : goal.scroll_lines-column-requires
 scroll_lines-column-requires c =
     let b = c.requires.0.whole.parts.bounds in

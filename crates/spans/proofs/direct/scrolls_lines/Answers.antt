@@ -1,5 +1,5 @@
 -- The tests are the definition's, those that are rare last.
-use Rattle.std.proofs.Common.{◌≡◌, Bool, true, false, not, ◌&&◌, ◌||◌, eqb, ltb, leb, sym, ap, ◌∙◌, arith, le-ltb, lt-ltb, eq-eqb, ne_eqb, leb-false, leb-true}
+use Rattle.std.proofs.Common.{◌≡◌, Bool, true, false, not, ◌&&◌, ◌||◌, eqb, ltb, leb, sym, ap, ◌∙◌, le-ltb, lt-ltb, eq-eqb, ne_eqb, leb-false, leb-true}
 use mathlib.Core.Bool.{and-false}
 use borrow.Author.Tests.{not-true, not-false}
 use Rattle.ground.proofs.TestLaws.{or_cases, or_left, or_right}
@@ -37,6 +37,3 @@ returns c =
 
 pub returns-then-core-margins : goal.returns-then-core-margins
 returns-then-core-margins c = rw (ne_eqb _ _ c.if-core-margins.true)
-
-pub all_known-requires : goal.all_known-requires
-all_known-requires c = let b = c.requires in omega arith

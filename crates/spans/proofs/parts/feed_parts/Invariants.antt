@@ -5,9 +5,11 @@ use Rattle.spans.specs.Spans.{Spanned}
 use Rattle.spans.specs.Parts.{with_parts}
 use Rattle.spans.proofs.parts.feed_parts.Given as goal
 
-abbrev pub invariant-loop-i : goal.invariant-loop-i
-invariant-loop-i l =
-    Spanned l.core l.changed-2 l.initial.page l.input l.from l.i (with_parts l.core l.cursor l.rendition l.parser) l.changed l.page × (l.pen ≡ pen_of l.rendition l.core.protected l.core.sets)
+abbrev pub invariant-loop-parts : goal.invariant-loop-parts
+invariant-loop-parts l =
+    let parts = l.parts in
+    Spanned l.core l.changed l.initial.page l.input l.from parts.next (with_parts l.core parts.cursor parts.rendition parts.parser) parts.changed l.page
+    × (l.pen ≡ pen_of parts.rendition l.core.protected l.core.sets)
 
-abbrev pub decreases-loop-i : goal.decreases-loop-i
-decreases-loop-i l = length l.input - l.i
+abbrev pub decreases-loop-parts : goal.decreases-loop-parts
+decreases-loop-parts l = length l.input - l.parts.next

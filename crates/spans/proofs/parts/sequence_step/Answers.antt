@@ -39,6 +39,3 @@ returns c =
     (read (goal.at.returns c).Start) (does (goal.at.returns c).After-sequence_touch-touch)
     c.args.changed c.apply.new.page c.apply.result (touch-quiet c.args.last c.requires.2) refl
     c.apply.ensures.page c.apply.ensures.marked
-
-pub sequence_touch-touch-requires : goal.sequence_touch-touch-requires
-sequence_touch-touch-requires c = (c.requires.0.whole.parts.bounds, c.requires.2)
