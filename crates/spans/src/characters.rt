@@ -3,14 +3,13 @@ ghost use Rattle.std.specs.Prelude.{◌≡◌, ◌+◌, ◌<◌, ◌≤◌, true
 ghost use Rattle.ground.specs.Tests as tests;
 ghost use Rattle.cells.specs.Runs.{is_character};
 ghost use Rattle.core_state.specs.Effects.{with_cursor};
-ghost use Rattle.core_state.specs.Pens.{pen_of};
 ghost use Rattle.spans.specs.Spans.{Spanned, ByteDone};
 ghost use Rattle.spans.specs.Characters.{Direct, advance_by};
 
+use crate::printer::Printer;
 use cells::COLUMNS;
 use cells::marks::row_bit;
-use cells::runs::{Pen, pen_word, put_characters};
-use core_state::Core;
+use cells::runs::{pen_word, put_characters};
 use core_state::geometry::right_stop;
 use device::cursor::Cursor;
 use ground::tests::between;
@@ -36,10 +35,11 @@ pub struct Moved {
 // ---- one
 
 // In insert mode the cells from the cursor move right one.
-fn put_one(core: Core, changed: u64, pen: Pen, byte: u8, page: &mut [u16]) -> Moved
-    requires { Direct core page.old × (is_character byte ≡ true) × (pen ≡ pen_of core.rendition core.protected core.sets) }
-    ensures { ByteDone core changed page.old byte (with_cursor core result.cursor) result.changed page.new }
+fn put_one(printer: Printer, changed: u64, byte: u8, page: &mut [u16]) -> Moved
+    requires { Direct printer.core page.old × (is_character byte ≡ true) }
+    ensures { ByteDone printer.core changed page.old byte (with_cursor printer.core result.cursor) result.changed page.new }
 {
+    let Printer { core, pen } = printer;
     let word = pen_word(pen, byte);
     let row = core.cursor.row - 1;
     let column = core.cursor.column - 1;
@@ -77,17 +77,17 @@ fn advance_by(mut cursor: Cursor, count: usize, autowrap: bool) -> Cursor
 }
 
 fn put_row(
-    core: Core,
+    printer: Printer,
     changed: u64,
-    pen: Pen,
     page: &mut [u16],
     input: &[u8],
     from: usize,
 ) -> Characters
-    requires { Direct core page.old × (core.modes.insert ≡ false) × (from ≤ length input.now)
-        × (pen ≡ pen_of core.rendition core.protected core.sets) }
-    ensures { Spanned core changed page.old input.now from result.next (with_cursor core result.cursor) result.changed page.new }
+    requires { Direct printer.core page.old × (printer.core.modes.insert ≡ false) × (from ≤ length input.now) }
+    ensures { Spanned printer.core changed page.old input.now from result.next
+        (with_cursor printer.core result.cursor) result.changed page.new }
 {
+    let Printer { core, pen } = printer;
     let row = core.cursor.row - 1;
     let column = core.cursor.column - 1;
     let most = (input.len() - from).min(COLUMNS - column as usize);
@@ -118,23 +118,21 @@ fn goes_on(insert: bool, cursor: Cursor, input: &[u8], at: usize) -> bool
 }
 
 pub fn put_some(
-    mut core: Core,
+    mut printer: Printer,
     changed: u64,
-    pen: Pen,
     page: &mut [u16],
     input: &[u8],
     from: usize,
 ) -> Characters
-    requires { Direct core page.old × (from < length input.now) × (is_character (slice_index input.now from) ≡ true)
-        × (pen ≡ pen_of core.rendition core.protected core.sets) }
-    ensures { Spanned core changed page.old input.now from result.next (with_cursor core result.cursor) result.changed page.new
-        × (from < result.next) }
+    requires { Direct printer.core page.old × (from < length input.now) × (is_character (slice_index input.now from) ≡ true) }
+    ensures { Spanned printer.core changed page.old input.now from result.next
+        (with_cursor printer.core result.cursor) result.changed page.new × (from < result.next) }
 {
-    let first = put_one(core, changed, pen, input[from], page);
+    let first = put_one(printer, changed, input[from], page);
     let next = from + 1;
-    if goes_on(core.modes.insert, first.cursor, input, next) {
-        core.cursor = first.cursor;
-        return put_row(core, first.changed, pen, page, input, next);
+    if goes_on(printer.core.modes.insert, first.cursor, input, next) {
+        printer.core.cursor = first.cursor;
+        return put_row(printer, first.changed, page, input, next);
     }
     Characters {
         cursor: first.cursor,

@@ -3,7 +3,6 @@ ghost use Rattle.std.specs.Prelude.{◌≡◌, ◌<◌, true, length, slice_inde
 ghost use Rattle.parser.specs.declared.phases.Phase.TheVariants.{Ground};
 ghost use Rattle.core_state.specs.Bounds.{Bounds};
 ghost use Rattle.core_state.specs.Effects.{with_cursor};
-ghost use Rattle.core_state.specs.Pens.{pen_of};
 ghost use Rattle.dispatch.specs.Touches.{is_direct};
 ghost use Rattle.steps.specs.Ready.{Paged};
 ghost use Rattle.spans.specs.Spans.{Spanned, ByteDone};
@@ -11,7 +10,8 @@ ghost use Rattle.spans.specs.Characters.{is_unshifted};
 ghost use Rattle.spans.specs.Direct.{acts_directly, scrolls_lines};
 
 use crate::characters::{Characters, Moved, put_some};
-use cells::runs::{Pen, is_character};
+use crate::printer::Printer;
+use cells::runs::is_character;
 use core_state::Core;
 use core_state::geometry::{left_stop, right_stop};
 use core_state::glyphs::{is_edge, skipped, used_set};
@@ -89,18 +89,18 @@ fn scrolls_lines(core: Core, changed: u64) -> bool
 }
 
 fn feed_lines(
-    core: Core,
+    printer: Printer,
     changed: u64,
-    pen: Pen,
     page: &mut [u16],
     input: &[u8],
     from: usize,
 ) -> Characters
-    requires { Paged core page.old × (core.parser.phase ≡ Ground) × (scrolls_lines core changed ≡ true) × (from < length input.now)
-        × (slice_index input.now from ≡ 0x0A) × (pen ≡ pen_of core.rendition core.protected core.sets) }
-    ensures { Spanned core changed page.old input.now from result.next (with_cursor core result.cursor) result.changed page.new
-        × (from < result.next) }
+    requires { Paged printer.core page.old × (printer.core.parser.phase ≡ Ground) × (scrolls_lines printer.core changed ≡ true)
+        × (from < length input.now) × (slice_index input.now from ≡ 0x0A) }
+    ensures { Spanned printer.core changed page.old input.now from result.next
+        (with_cursor printer.core result.cursor) result.changed page.new × (from < result.next) }
 {
+    let Printer { core, pen } = printer;
     let margins = core.margins;
     let region = Region {
         rows: core.rows,
@@ -125,24 +125,24 @@ fn feed_lines(
 }
 
 pub fn act_directly(
-    core: Core,
+    printer: Printer,
     changed: u64,
-    pen: Pen,
     page: &mut [u16],
     input: &[u8],
     from: usize,
 ) -> Characters
-    requires { Paged core page.old × (from < length input.now) × (acts_directly core (slice_index input.now from) ≡ true)
-        × (pen ≡ pen_of core.rendition core.protected core.sets) }
-    ensures { Spanned core changed page.old input.now from result.next (with_cursor core result.cursor) result.changed page.new
-        × (from < result.next) }
+    requires { Paged printer.core page.old × (from < length input.now)
+        × (acts_directly printer.core (slice_index input.now from) ≡ true) }
+    ensures { Spanned printer.core changed page.old input.now from result.next
+        (with_cursor printer.core result.cursor) result.changed page.new × (from < result.next) }
 {
+    let core = printer.core;
     let byte = input[from];
     if is_character(byte) {
-        return put_some(core, changed, pen, page, input, from);
+        return put_some(printer, changed, page, input, from);
     }
     if byte == LF && scrolls_lines(core, changed) {
-        return feed_lines(core, changed, pen, page, input, from);
+        return feed_lines(printer, changed, page, input, from);
     }
     let next = from + 1;
     if byte == CR {

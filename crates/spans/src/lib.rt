@@ -5,3 +5,4 @@
 pub mod characters;
 pub mod direct;
 pub mod parts;
+pub mod printer;

@@ -11,6 +11,7 @@ ghost use Rattle.spans.specs.Parts as whole;
 
 use crate::characters::Moved;
 use crate::direct::{act_directly, acts_directly};
+use crate::printer::Printer;
 use cells::Rendition;
 use core_state::Core;
 use core_state::pens::pen_of;
@@ -80,9 +81,12 @@ pub fn feed_parts(core: Core, changed: u64, page: &mut [u16], input: &[u8], from
     };
     let mut pen = pen_of(core.rendition, core.protected, core.sets);
     while parts.next < input.len() {
-        let at = with_parts(core, parts);
-        if acts_directly(at, input[parts.next]) {
-            let done = act_directly(at, parts.changed, pen, page, input, parts.next);
+        let printer = Printer {
+            core: with_parts(core, parts),
+            pen,
+        };
+        if acts_directly(printer.core, input[parts.next]) {
+            let done = act_directly(printer, parts.changed, page, input, parts.next);
             parts.cursor = done.cursor;
             parts.changed = done.changed;
             parts.next = done.next;

@@ -10,14 +10,14 @@ pub put_characters-done-requires : goal.put_characters-done-requires
 put_characters-done-requires c =
     let b = c.requires.0.paged.whole.parts.bounds in
     let size = c.requires.0.paged.size in
-    (omega (arith, c.place.ensures, c.min-most.ensures), omega (arith, c.min-most.ensures), rw c.requires.3 (pen-fits _ _ _))
+    (omega (arith, c.place.ensures, c.min-most.ensures), omega (arith, c.min-most.ensures), rw c.args.printer.matched (pen-fits _ _ _))
 
 pub returns : goal.returns
 returns c =
-    let core = c.args.core in
+    let core = c.args.printer.core in
     let input = c.args.input.now in
     let from = c.args.from in
-    let pen = c.args.pen in
+    let pen = c.args.printer.pen in
     let k = c.put_characters-done.result.count in
     let P = c.put_characters-done.ensures in
     let s = map (pen_word pen) (drop from input) in
@@ -27,5 +27,5 @@ returns c =
       end = omega (arith, c.min-most.ensures, P.most);
       words = simp (length-map, length-drop) (omega (arith, c.min-most.ensures, P.most));
       characters = P.characters;
-      glyphs = words-glyphs core pen input from c.requires.0.direct c.requires.3 k (omega (arith, c.min-most.ensures, P.most));
+      glyphs = words-glyphs core pen input from c.requires.0.direct c.args.printer.matched k (omega (arith, c.min-most.ensures, P.most));
     }))

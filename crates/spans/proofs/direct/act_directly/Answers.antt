@@ -50,12 +50,12 @@ pub put_some-requires : goal.put_some-requires
 put_some-requires c =
     let b = get_or c.args.input.now c.args.from 0 in
     let is : is_character b ≡ true = sym c.is_character.ensures ∙ c.if-is_character.true in
-    (direct c.args.core b c.requires.2 c.args.page.now c.requires.0 is, c.requires.1, is, c.requires.3)
+    (direct c.args.printer.core b c.requires.2 c.args.page.now c.requires.0 is, c.requires.1, is)
 
 pub feed_lines-requires : goal.feed_lines-requires
 feed_lines-requires c =
     let b = get_or c.args.input.now c.args.from 0 in
-    (c.requires.0, ground c.args.core b c.requires.2, sym c.scrolls_lines.ensures ∙ c.if-scrolls_lines.true, c.requires.1, c.if-byte-eq-LF.true, c.requires.3)
+    (c.requires.0, ground c.args.printer.core b c.requires.2, sym c.scrolls_lines.ensures ∙ c.if-scrolls_lines.true, c.requires.1, c.if-byte-eq-LF.true)
 
 abbrev byte_of : Else-is_character → ℕ
 byte_of c = let a = c.args in get_or a.input.now a.from 0
@@ -63,39 +63,39 @@ byte_of c = let a = c.args in get_or a.input.now a.from 0
 -- one byte done
 one_byte : (c : Else-is_character) (d : Core) (n : ℕ) (q : List ℕ)
     → let a = c.args in
-    ByteDone a.core a.changed a.page.now (byte_of c) d n q
-    → Spanned a.core a.changed a.page.now a.input.now a.from (a.from + 1) d n q × (a.from < a.from + 1)
+    ByteDone a.printer.core a.changed a.page.now (byte_of c) d n q
+    → Spanned a.printer.core a.changed a.page.now a.input.now a.from (a.from + 1) d n q × (a.from < a.from + 1)
 one_byte c d n q done =
     (spanned-more (spanned-none _ _ _ _ _ c.requires.0 (omega (arith, c.requires.1))) c.requires.1 _ refl done, omega arith)
 
-in-ground : (c : Else-is_character) → c.args.core.parser.phase ≡ Ground
+in-ground : (c : Else-is_character) → c.args.printer.core.parser.phase ≡ Ground
 in-ground c =
-    ground c.args.core (byte_of c) c.requires.2
+    ground c.args.printer.core (byte_of c) c.requires.2
 
 pub control_step-done-requires : goal.control_step-done-requires
 control_step-done-requires c = (
   c.requires.0,
   in-ground (goal.at.control_step-done-requires c).Else-is_character,
-  rw (sym c.is_character.ensures ∙ c.if-is_character.false, sym c.is_edge.ensures ∙ c.if-is_edge.false) at (rest c.args.core (byte_of (goal.at.control_step-done-requires c).Else-is_character) c.requires.2),
+  rw (sym c.is_character.ensures ∙ c.if-is_character.false, sym c.is_edge.ensures ∙ c.if-is_edge.false) at (rest c.args.printer.core (byte_of (goal.at.control_step-done-requires c).Else-is_character) c.requires.2),
 )
 
 -- CR
 pub returns-then-byte-eq-CR : goal.returns-then-byte-eq-CR
 returns-then-byte-eq-CR c =
     rw (c.to_column.ensures, c.left_stop.ensures)
-    (one_byte (goal.at.returns-then-byte-eq-CR c).Else-is_character _ _ _ (rw c.if-byte-eq-CR.true (return-done c.args.core c.args.changed c.args.page.now c.requires.0 (in-ground (goal.at.returns-then-byte-eq-CR c).Else-is_character))))
+    (one_byte (goal.at.returns-then-byte-eq-CR c).Else-is_character _ _ _ (rw c.if-byte-eq-CR.true (return-done c.args.printer.core c.args.changed c.args.page.now c.requires.0 (in-ground (goal.at.returns-then-byte-eq-CR c).Else-is_character))))
 
 -- HT
 pub returns-then-byte-eq-HT : goal.returns-then-byte-eq-HT
 returns-then-byte-eq-HT c =
     rw (c.tab.ensures, c.right_stop.ensures)
-    (one_byte (goal.at.returns-then-byte-eq-HT c).Else-is_character _ _ _ (rw c.if-byte-eq-HT.true (tab-done c.args.core c.args.changed c.args.page.now c.requires.0 (in-ground (goal.at.returns-then-byte-eq-HT c).Else-is_character))))
+    (one_byte (goal.at.returns-then-byte-eq-HT c).Else-is_character _ _ _ (rw c.if-byte-eq-HT.true (tab-done c.args.printer.core c.args.changed c.args.page.now c.requires.0 (in-ground (goal.at.returns-then-byte-eq-HT c).Else-is_character))))
 
 -- a byte that its set ignores
 pub returns-then-is_edge : goal.returns-then-is_edge
 returns-then-is_edge c =
-    let none = ignored c.args.core (byte_of (goal.at.returns-then-is_edge c).Else-is_character) c.requires.2 (sym c.is_character.ensures ∙ c.if-is_character.false) (sym c.is_edge.ensures ∙ c.if-is_edge.true) in
-    one_byte (goal.at.returns-then-is_edge c).Else-is_character _ _ _ (edge-done c.args.core c.args.changed c.args.page.now (byte_of (goal.at.returns-then-is_edge c).Else-is_character) c.requires.0 (in-ground (goal.at.returns-then-is_edge c).Else-is_character) none)
+    let none = ignored c.args.printer.core (byte_of (goal.at.returns-then-is_edge c).Else-is_character) c.requires.2 (sym c.is_character.ensures ∙ c.if-is_character.false) (sym c.is_edge.ensures ∙ c.if-is_edge.true) in
+    one_byte (goal.at.returns-then-is_edge c).Else-is_character _ _ _ (edge-done c.args.printer.core c.args.changed c.args.page.now (byte_of (goal.at.returns-then-is_edge c).Else-is_character) c.requires.0 (in-ground (goal.at.returns-then-is_edge c).Else-is_character) none)
 
 pub returns : goal.returns
 returns c =

@@ -9,8 +9,8 @@ use Rattle.spans.proofs.direct.feed_lines.Goals as goal
 use Rattle.spans.proofs.direct.feed_lines.Goals.{Start, After-lines_ahead-ahead}
 
 -- text scrolls here
-there : (start : Start) → Scrolls start.args.core
-there start = scrolls start.args.core start.args.changed start.requires.1 start.requires.2
+there : (start : Start) → Scrolls start.args.printer.core
+there start = scrolls start.args.printer.core start.args.changed start.requires.1 start.requires.2
 
 -- the text that is taken follows the line feed
 follows : (c : After-lines_ahead-ahead) → let text = c.lines_ahead-ahead.result.text.now in text ≡ take (length text) (drop (c.args.from + 1) c.args.input.now)
@@ -29,17 +29,17 @@ scroll_lines-column-requires c =
       room = omega (arith, few, s.margins, b.margins.low);
       left = omega (arith, b.cursor.column-low);
       right = omega (arith, b.cursor.column-high);
-      fits = rw c.requires.5 (pen-fits _ _ _);
+      fits = rw c.args.printer.matched (pen-fits _ _ _);
     }
 
 pub returns : goal.returns
 returns c =
-    let core = c.args.core in
+    let core = c.args.printer.core in
     let ahead = c.lines_ahead-ahead.result in
     rw c.to_column.ensures (
-      lines-spanned core c.args.changed c.args.page.now c.args.input.now c.args.from c.args.pen c.requires.0
+      lines-spanned core c.args.changed c.args.page.now c.args.input.now c.args.from c.args.printer.pen c.requires.0
           c.requires.1 c.requires.2 (omega arith)
-          (λ b. rw c.requires.5 (pen-glyph core b (unshifted-is core.shift (there (goal.at.returns c).Start).unshifted)))
+          (λ b. rw c.args.printer.matched (pen-glyph core b (unshifted-is core.shift (there (goal.at.returns c).Start).unshifted)))
           c.requires.3 c.requires.4 ahead.text.now (follows (goal.at.returns c).After-lines_ahead-ahead) ahead.plain _ _ c.scroll_lines-column.ensures,
       omega arith,
     )

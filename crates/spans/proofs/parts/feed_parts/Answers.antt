@@ -14,12 +14,12 @@ loop-parts-init c =
 
 pub act_directly-done-requires : goal.act_directly-done-requires
 act_directly-done-requires c =
-    rw c.with_parts-at.ensures
-    (c.loop-parts.invariant.0.paged, c.loop-parts-test.true, rw c.with_parts-at.ensures at (sym c.acts_directly.ensures ∙ c.if-acts_directly.true), c.loop-parts.invariant.1)
+    rw c.with_parts.ensures
+    (c.loop-parts.invariant.0.paged, c.loop-parts-test.true, rw c.with_parts.ensures at (sym c.acts_directly.ensures ∙ c.if-acts_directly.true))
 
 pub loop-parts-preserved-then-acts_directly : goal.loop-parts-preserved-then-acts_directly
 loop-parts-preserved-then-acts_directly c =
-    (spanned-append c.loop-parts.invariant.0 (rw c.with_parts-at.ensures at c.act_directly-done.ensures.0), c.loop-parts.invariant.1)
+    (spanned-append c.loop-parts.invariant.0 (rw c.with_parts.ensures at c.act_directly-done.ensures.0), c.loop-parts.invariant.1)
 
 -- ---- bytes that only move the parser
 
@@ -36,7 +36,7 @@ loop-parts-preserved c = (idled (goal.at.loop-parts-preserved c).After-skip_idle
 
 pub sequence_step-done-requires : goal.sequence_step-done-requires
 sequence_step-done-requires c =
-    rw c.with_parts.ensures
+    rw c.with_parts-then-is_touch.ensures
     ((idled (goal.at.sequence_step-done-requires c).After-skip_idle-idle).paged, sym c.in_plain_sequence.ensures ∙ c.if-not-in_plain_sequence.false, sym c.is_touch.ensures ∙ c.if-is_touch.true)
 
 pub loop-parts-preserved-then-parts-input : goal.loop-parts-preserved-then-parts-input
@@ -45,7 +45,7 @@ loop-parts-preserved-then-parts-input c =
     elim c.if-is_touch.branch [
       | then-is_touch w ↦ (
         rw (c.in_phase-parts.ensures, w.page-is, w.parts-is)
-            (spanned-more all c.if-parts-input.true _ refl (rw w.with_parts.ensures at w.sequence_step-done.ensures)),
+            (spanned-more all c.if-parts-input.true _ refl (rw w.with_parts-then-is_touch.ensures at w.sequence_step-done.ensures)),
         rw (w.pen-is, w.parts-is) c.loop-parts.invariant.1,
       )
       | else-is_touch+then-last-eq-SGR w ↦ (
