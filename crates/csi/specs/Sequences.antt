@@ -135,16 +135,16 @@ abbrev pub modes_set : Bool → Bool → Core → Params → Decision
 modes_set private on c q = unedited (folded (mode_set private on) c (param_list q))
 
 abbrev pub with_bold : Rendition → Bool → Rendition
-with_bold r on = record { bold = on; underline = r.underline; blink = r.blink; reverse = r.reverse }
+with_bold r on = record r { bold = on }
 
 abbrev pub with_underline : Rendition → Bool → Rendition
-with_underline r on = record { bold = r.bold; underline = on; blink = r.blink; reverse = r.reverse }
+with_underline r on = record r { underline = on }
 
 abbrev pub with_blink : Rendition → Bool → Rendition
-with_blink r on = record { bold = r.bold; underline = r.underline; blink = on; reverse = r.reverse }
+with_blink r on = record r { blink = on }
 
 abbrev pub with_reverse : Rendition → Bool → Rendition
-with_reverse r on = record { bold = r.bold; underline = r.underline; blink = r.blink; reverse = on }
+with_reverse r on = record r { reverse = on }
 
 -- one value of m (SGR)
 unfoldable pub rendered : Rendition → ℕ → Rendition
@@ -187,26 +187,14 @@ set_margins c q = let d = with_margins c (requested_margins c q) in unedited (wi
 unfoldable pub soft_reset : Core → Core
 soft_reset c =
     let f = fresh_core c.rows in
-    record {
-      rows = c.rows;
-      cursor = c.cursor;
+    record c {
       margins = f.margins;
-      tabs = c.tabs;
-      modes = record {
-        insert = f.modes.insert;
-        newline = c.modes.newline;
-        origin = f.modes.origin;
-        autowrap = f.modes.autowrap;
-        shown = f.modes.shown;
-        eightbit = c.modes.eightbit;
-        rectangle = c.modes.rectangle;
-      };
+      modes = record c.modes { insert = f.modes.insert; origin = f.modes.origin; autowrap = f.modes.autowrap; shown = f.modes.shown };
       rendition = f.rendition;
       protected = f.protected;
       sets = f.sets;
       shift = f.shift;
       saved = f.saved;
-      parser = c.parser;
     }
 
 -- ---- the sequences

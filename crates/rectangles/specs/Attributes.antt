@@ -12,16 +12,16 @@ abbrev pub every : Setting → Styling
 every x = record { bold = x; underline = x; blink = x; reverse = x }
 
 abbrev pub style_bold : Styling → Setting → Styling
-style_bold s x = record { bold = x; underline = s.underline; blink = s.blink; reverse = s.reverse }
+style_bold s x = record s { bold = x }
 
 abbrev pub style_underline : Styling → Setting → Styling
-style_underline s x = record { bold = s.bold; underline = x; blink = s.blink; reverse = s.reverse }
+style_underline s x = record s { underline = x }
 
 abbrev pub style_blink : Styling → Setting → Styling
-style_blink s x = record { bold = s.bold; underline = s.underline; blink = x; reverse = s.reverse }
+style_blink s x = record s { blink = x }
 
 abbrev pub style_reverse : Styling → Setting → Styling
-style_reverse s x = record { bold = s.bold; underline = s.underline; blink = s.blink; reverse = x }
+style_reverse s x = record s { reverse = x }
 
 -- a setting, and then a flip
 abbrev pub flipped : Setting → Setting
