@@ -157,10 +157,9 @@ pub fn select_protection(mut core: Core, params: Params) -> Decision
 fn requested_bottom(rows: u8, requested: u16) -> u8
     ensures { result ≡ (if nat_eq requested 0 || nat_lt rows requested then rows else requested) }
 {
-    if requested == 0 {
-        rows
-    } else {
-        capped(requested, rows)
+    match requested {
+        0 => rows,
+        _ => capped(requested, rows),
     }
 }
 

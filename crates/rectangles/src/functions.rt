@@ -62,6 +62,7 @@ fn fill_rectangle(core: Core, params: Params, area: Area) -> Edit
 
 // ---- cells that change by what they hold
 
+// (The edges as in `fill`: a function for both, which takes the edit of four edges, is longer than the two.)
 fn change(area: Area, change: CellChange) -> Edit
     ensures { result ≡ functions.changed area change }
 {
