@@ -71,7 +71,7 @@ in_order reversing (v ∷ vs) m r =
 
 -- the cell with other attributes
 abbrev with_rendition : Cell → Rendition → Cell
-with_rendition c r = record { code = c.code; set = c.set; rendition = r; protected = c.protected }
+with_rendition c r = record c { rendition = r }
 
 -- what the edit of a list makes of any word
 changed-in-order : (reversing : Bool) (vs : List ℕ) (w : ℕ)
