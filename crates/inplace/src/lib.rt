@@ -9,6 +9,7 @@ ghost use Rattle.record.specs.Plain.{plain};
 ghost use Rattle.inplace.specs.InPlace.{all_ascii, puts_ascii, takes_in_place, base_of, moved_by, FedInPlace};
 
 use cells::marks::row_bit;
+use cells::segments::paste_words;
 use ground::tests::between;
 use record::Terminal;
 
@@ -67,13 +68,7 @@ fn put_ascii(page: &mut [u16], at: usize, input: &[u8], base: u16) -> bool
     requires { (at + length input.now ≤ length page.old) × (base ≤ 65280) }
     ensures { Pasted page.old page.new at (map (λ (b : ℕ). base + b) input.now) (length input.now) result }
 {
-    let mut changed = false;
-    for k in 0..input.len() {
-        let word = base + u16::from(input[k]);
-        changed |= page[at + k] != word;
-        page[at + k] = word;
-    }
-    changed
+    paste_words(page, at, input.len(), |k, _| base + input[k] as u16)
 }
 
 // The page after the characters, and whether a cell changed: with the record `moved` on, that is all that a feeding does.
