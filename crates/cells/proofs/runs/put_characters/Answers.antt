@@ -27,6 +27,3 @@ returns c =
     let end : c.loop-k.k ≡ a.most = omega arith in
     let put = rw end at (c.loop-k.invariant a.page.now (omega arith) c.put_plain-plain.ensures.1) in
     record { most = omega arith; characters = put.characters; pasted = put.pasted; some = λ m is. m }
-
-pub loop-k-init : goal.loop-k-init
-loop-k-init c = λ p l P. P

@@ -3,10 +3,6 @@ use native.Mathlib.Omega.{arith}
 use Rattle.cells.proofs.Putting.{put-join}
 use Rattle.cells.proofs.runs.put_plain.Goals as goal
 
-pub put_block-changed-requires : goal.put_block-changed-requires
-put_block-changed-requires c =
-    (omega arith, omega arith, c.requires.2, c.is_plain.ensures (c.if-not-is_plain.false))
-
 pub returns : goal.returns
 returns c =
     (omega arith, put-join (omega arith) (omega arith) c.put_blocks-blocks.ensures.1 c.put_block-changed.ensures)

@@ -1,12 +1,11 @@
 use mathlib.Core.Path.{◌≡◌, refl}
 use mathlib.Core.List.{◌∷◌}
 use mathlib.Core.Logic.{inl}
-use native.Mathlib.Nat.{add-zero, sub-zero}
 use native.Mathlib.Omega.{arith}
 use lib.ListN.{length, length-drop, get_or, drop}
 use lib.Seq.{drop-cons}
 use Prim.Native.Nat.{ℕ, suc, ◌+◌, ◌-◌, ◌≤◌}
-use Rattle.cells.proofs.Storing.{pasted-none, pasted-down, pasted-outside}
+use Rattle.cells.proofs.Storing.{pasted-down, pasted-outside}
 use Rattle.cells.proofs.segments.copy_downward.Goals as goal
 
 pub loop-k-preserved : goal.loop-k-preserved
@@ -20,9 +19,3 @@ loop-k-preserved c =
     let read : drop (a.from + k) a.page.now ≡ get_or c.loop-k.page (a.from + k) 0 ∷ drop (a.from + c.loop-k.k) a.page.now =
     cc (drop-cons a.page.now (a.from + k) 0 (omega arith), stood, next) in
     pasted-down P _ _ _ _ _ (omega arith) read (omega arith) (omega arith) has refl
-
-pub loop-k-init : goal.loop-k-init
-loop-k-init c = pasted-none _ _ _ _ (omega arith)
-
-pub returns : goal.returns
-returns c = let e : c.loop-k.k ≡ 0 = omega arith in simp (e, add-zero, sub-zero) at c.loop-k.invariant

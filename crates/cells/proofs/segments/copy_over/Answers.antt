@@ -2,14 +2,11 @@ use mathlib.Core.Path.{◌≡◌, sym, ◌∙◌}
 use mathlib.Core.Logic.{inl, inr, ⊎_elim}
 use native.Mathlib.Omega.{arith}
 use lib.ListN.{length, length-drop, get_or, drop}
-use lib.Seq.{paste-zero, get_or-drop}
+use lib.Seq.{get_or-drop}
 use Prim.Native.Nat.{◌+◌, ◌<◌}
 use Rattle.ground.proofs.ListLaws.{paste-outside}
 use Rattle.cells.proofs.Storing.{paste-up}
 use Rattle.cells.proofs.segments.copy_over.Goals as goal
-
-pub loop-k-init : goal.loop-k-init
-loop-k-init c = let a = c.args in paste-zero a.page.now a.to (drop a.from a.page.now)
 
 pub loop-k-preserved : goal.loop-k-preserved
 loop-k-preserved c =

@@ -1,12 +1,8 @@
 use mathlib.Core.Path.{sym}
 use native.Mathlib.Omega.{arith}
 use lib.ListN.{length-replicate, get_or-replicate, replicate}
-use lib.Seq.{paste-zero}
 use Rattle.cells.proofs.Storing.{paste-up}
 use Rattle.cells.proofs.segments.fill_over.Goals as goal
-
-pub loop-k-init : goal.loop-k-init
-loop-k-init c = let a = c.args in paste-zero a.page.now a.to (replicate 80 a.word)
 
 pub loop-k-preserved : goal.loop-k-preserved
 loop-k-preserved c =

@@ -21,6 +21,3 @@ returns c =
     let a = c.args in
     block-copied a.block.left a.block.right a.row a.column (λ j. j - (a.block.top - a.row)) (λ j l h. omega arith)
     (over_nothing c.lower_rows.ensures)
-
-pub lower_rows-requires : goal.lower_rows-requires
-lower_rows-requires c = (omega arith, omega arith, omega arith, λ e. absurd (omega arith))

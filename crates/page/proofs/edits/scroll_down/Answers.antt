@@ -1,5 +1,4 @@
 -- The rows that move and those that blanks enter are two blocks, and together they are the rows from `top` to `end`.
-use mathlib.Core.Path.{refl}
 use mathlib.Core.Logic.{inl, inr, ⊎_elim}
 use Prim.Native.Nat.{ℕ, ◌+◌, ◌-◌, ◌≤◌, ◌<◌}
 use native.Mathlib.Omega.{arith}
@@ -20,6 +19,3 @@ returns c =
     (λ j a b. (omega arith, b, le-leb (top + n) j a))
     (λ j a b. (a, omega arith, lt-leb (top + n) j b, inl b))
     (λ j o o'. ⊎_elim (λ (b : j < top + n). ⊎_elim (λ (d : j < top). inl d) (λ (d : top + n ≤ j). absurd (omega arith)) o') (λ (b : end ≤ j). inr b) o))
-
-pub lower_rows-moved-requires : goal.lower_rows-moved-requires
-lower_rows-moved-requires c = (omega arith, omega arith, omega arith, λ _. refl)

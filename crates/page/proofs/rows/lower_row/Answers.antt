@@ -1,6 +1,5 @@
 -- A whole row is copied as one; of any other the segment is copied, and its flag is the row's bit. The row above ends before it.
 -- Columns as many as a row has are all of it.
-use mathlib.Core.Logic.{inr}
 use Prim.Native.Nat.{◌+◌, ◌-◌, ◌*◌}
 use native.Mathlib.Omega.{arith}
 use Rattle.page.proofs.Redoing.{redone-move}
@@ -18,9 +17,3 @@ returns c =
     over-or (redone-move {from = c.place.result - (80 * c.args.gap + 80)}
     (c.args.to - (c.args.gap + 1)) c.args.column c.requires.0
     (omega arith) c.requires.2 c.place-2.ensures (omega arith) c.copy_columns-moved.ensures c.row_bit.ensures) c.args.known
-
-pub copy_row-requires : goal.copy_row-requires
-copy_row-requires c = (omega arith, omega arith, omega arith, inr (omega arith))
-
-pub copy_columns-moved-requires : goal.copy_columns-moved-requires
-copy_columns-moved-requires c = (omega arith, omega arith, inr (omega arith))

@@ -1,5 +1,4 @@
 -- A whole row is copied as one; of any other the segment is copied, and its flag is the row's bit. Columns as many as a row has are all of it.
-use mathlib.Core.Logic.{inl}
 use native.Mathlib.Omega.{arith}
 use Rattle.page.proofs.Redoing.{redone-move}
 use Rattle.page.proofs.KnownRows.{over-or, over-whole}
@@ -14,9 +13,3 @@ pub returns : goal.returns
 returns c =
     over-or (redone-move c.args.from c.args.column c.requires.0 c.requires.1 c.requires.2 c.place-2.ensures
     c.place-3.ensures c.copy_columns-changed.ensures c.row_bit.ensures) c.args.known
-
-pub copy_row-requires : goal.copy_row-requires
-copy_row-requires c = (omega arith, omega arith, omega arith, inl (omega arith))
-
-pub copy_columns-changed-requires : goal.copy_columns-changed-requires
-copy_columns-changed-requires c = (omega arith, omega arith, inl (omega arith))
