@@ -19,9 +19,7 @@ use Rattle.dispatch.specs.Displays.{carried_out, sends_of}
 use Rattle.wholeness.proofs.Wholeness.{sized_rows, displays-facts, fresh-rows, fresh-whole}
 use Rattle.wholeness.proofs.SoundDisplays.{sends-few, fresh-line}
 use Rattle.steps.specs.declared.State.{State}
-use Rattle.terminal.specs.declared.Answer.{Answer}
-use Rattle.terminal.specs.declared.Answer.TheVariants.{Done, Broken, WrongSize, NoRoom, OffPage}
-use Rattle.terminal.specs.Answers.{number, refusal}
+use Rattle.terminal.specs.Answers.{Answer, Done, Broken, WrongSize, NoRoom, OffPage, number, refusal}
 use Rattle.steps.specs.Steps.{nothing_tracked, Buffers, stepped, ran, ran_displays, sent, readable, screen}
 use Rattle.steps.specs.Whole.{whole_state, WholeState, right_sizes}
 use Rattle.terminal.specs.Start.{Start, fresh, started}

@@ -8,8 +8,7 @@ use Rattle.steps.specs.Steps.{nothing_tracked, Buffers, buffers, Screen, stepped
 use Rattle.steps.specs.Whole.{whole_state, right_sizes}
 use Rattle.steps.proofs.StepLaws.{ReadyAt, ready-step, line-long, ready-ran, ran-displays, sent-fits}
 use Rattle.feeding.specs.Bytes.{read_count}
-use Rattle.terminal.specs.declared.Answer.{Answer}
-use Rattle.terminal.specs.declared.Answer.TheVariants.{Done, Broken, WrongSize, NoRoom}
+use Rattle.terminal.specs.Answers.{Answer, Done, Broken, WrongSize, NoRoom}
 use Rattle.terminal.specs.Feed.{Feed, feed_as, fed}
 use Rattle.terminal.proofs.CallLaws.{state-facts, state-tested, sizes-fit, fit-sizes, fed-broken, fed-size, fed-processed, fed-cases, Taken}
 use Rattle.terminal.proofs.CallLaws.{fed-taken, asked-whole, asked-done}

@@ -7,8 +7,7 @@ use Rattle.core_state.specs.declared.Displays.{Displays}
 use Rattle.core_state.specs.Effects.{with_protected}
 use Rattle.steps.specs.declared.State.{State}
 use Rattle.steps.specs.Steps.{Buffers, buffers}
-use Rattle.terminal.specs.declared.Answer.{Answer}
-use Rattle.terminal.specs.declared.Answer.TheVariants.{Done, NoRoom}
+use Rattle.terminal.specs.Answers.{Answer, Done, NoRoom}
 use Rattle.terminal.specs.Feed.{Feed, feed_as}
 use Rattle.terminal.specs.Read.{cell_at}
 use Rattle.demands.specs.Leak.{feeds, NoLeak}

@@ -12,18 +12,15 @@ use Rattle.core_state.specs.declared.Displays.{Displays}
 use Rattle.core_state.specs.Whole.{sized, whole_displays}
 use Rattle.dispatch.specs.Displays.{sends_of}
 use Rattle.steps.specs.declared.State.{State}
-use Rattle.terminal.specs.declared.Asked.{Asked}
-use Rattle.terminal.specs.declared.Answer.TheVariants.{Broken}
-use Rattle.terminal.specs.Answers.{refusal}
+use Rattle.terminal.specs.Ask.{Asked, asked}
+use Rattle.terminal.specs.Answers.{Broken, refusal}
 use Rattle.steps.specs.Steps.{Buffers, Screen, stepped, ran, sent, screen}
 use Rattle.steps.specs.Whole.{whole_state}
 use Rattle.terminal.specs.Start.{fresh, blank_buffers, started}
 use Rattle.terminal.specs.Feed.{Feed, fed, Untouched}
-use Rattle.terminal.specs.Ask.{asked}
 use Rattle.terminal.specs.Read.{on_page, cell_at, cell_read}
 use Rattle.terminal.specs.Row.{RowRead, active_rows, active_cells, row_read}
-use Rattle.terminal.specs.declared.CursorRead.{CursorRead}
-use Rattle.terminal.specs.CursorRead.{cursor_read}
+use Rattle.terminal.specs.CursorRead.{CursorRead, cursor_read}
 use Rattle.demands.specs.Model as M
 use Rattle.demands.specs.World as W
 

@@ -4,11 +4,10 @@ use Rattle.cells.specs.Rows.{row, joined}
 use Rattle.cells.specs.Sets.{has_bit}
 use Rattle.steps.specs.declared.State.{State}
 use Rattle.steps.specs.Steps.{Buffers, buffers}
-use Rattle.terminal.specs.declared.Asked.{Asked}
+use Rattle.terminal.specs.Ask.{Asked, asked}
 use Rattle.terminal.specs.Answers.{refusal}
 use Rattle.terminal.specs.Start.{started}
 use Rattle.terminal.specs.Feed.{fed}
-use Rattle.terminal.specs.Ask.{asked}
 use Rattle.terminal.specs.Read.{cell_read}
 use Rattle.terminal.specs.Row.{row_read}
 use Rattle.demands.specs.Model.{Call, feeding, asking, reading, rowing, Notice, Seen, feed_seen, rows_seen, cell_seen, row_seen, row_list}

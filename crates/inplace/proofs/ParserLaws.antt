@@ -23,7 +23,7 @@ use Rattle.record.specs.Plain.{plain}
 use Rattle.record.proofs.PlainLaws.{plain-named, plain-whole}
 use Rattle.record.proofs.EmptiedLaws.{record-back}
 use Rattle.record.proofs.RecordLaws.{state-back}
-use Rattle.terminal.specs.declared.Answer.TheVariants.{Done}
+use Rattle.terminal.specs.Answers.{Done}
 use Rattle.terminal.specs.Feed.{feed_as}
 use Rattle.terminal.proofs.CallLaws.{fit-sizes, fed-bytes}
 use Rattle.inplace.specs.InPlace.{steers_by, steers_in_place, with_numbers, reparsed, FedInPlace}

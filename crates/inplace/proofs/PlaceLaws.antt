@@ -28,7 +28,7 @@ use Rattle.record.specs.Record.{rendition_of, rendition_named, sets_named, core_
 use Rattle.record.specs.Plain.{flag_tests, plain_signs, plain}
 use Rattle.record.proofs.PlainLaws.{every-at, plain-facts, off, inactive, plain-named, plain-whole}
 use Rattle.record.proofs.EmptiedLaws.{told, record-back}
-use Rattle.terminal.specs.declared.Answer.TheVariants.{Done}
+use Rattle.terminal.specs.Answers.{Done}
 use Rattle.terminal.specs.Feed.{feed_as}
 use Rattle.terminal.proofs.CallLaws.{state-facts, fit-sizes, fed-bytes}
 use Rattle.inplace.specs.InPlace.{all_ascii, takes_in_place, base_of, place_of, moved_by, FedInPlace}

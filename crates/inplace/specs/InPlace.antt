@@ -13,7 +13,7 @@ use Rattle.record.specs.declared.ParserRecord.{ParserRecord}
 use Rattle.record.specs.declared.Terminal.{Terminal}
 use Rattle.record.specs.Numbers.{is_on}
 use Rattle.record.specs.Record.{rendition_of, parser_record, state_of, record_of}
-use Rattle.terminal.specs.declared.Answer.TheVariants.{Done}
+use Rattle.terminal.specs.Answers.{Done}
 use Rattle.terminal.specs.Feed.{feed_as, fed}
 
 -- ---- which

@@ -1,9 +1,9 @@
 -- What each function for C leaves: the number that it returns, the record, and what was lent to it, in terms of the calls' own definitions.
-use Rattle.std.specs.Prelude.{cond, List, ◌≡◌, ℕ, length}
-use Rattle.terminal.specs.declared.Answer.{Answer}
+use Rattle.std.specs.Prelude.{cond, List, ◌≡◌, ℕ, length, Result, Ok, Err}
+use Rattle.terminal.specs.declared.Refusal.{Refusal}
+use Rattle.terminal.specs.Answers.{Answer, Done, NoRoom, number, refusal, answer_of}
 use Rattle.steps.specs.declared.State.{State}
 use Rattle.steps.specs.Steps.{Buffers}
-use Rattle.terminal.specs.Answers.{refusal}
 use Rattle.terminal.specs.Start.{Start}
 use Rattle.terminal.specs.Feed.{Feed}
 use Rattle.terminal.specs.Ask.{Ask}
@@ -14,6 +14,7 @@ use Rattle.text.specs.Text.{page_text, written}
 use Rattle.record.specs.declared.Terminal.{Terminal}
 use Rattle.record.specs.Numbers.{flag_number}
 use Rattle.record.specs.Record.{state_of, record_of}
+use Rattle.pankholim.specs.declared.by_value.Fed.{Fed}
 
 -- the record that a call leaves: refused, as it came, else that of the state returned
 abbrev pub record_left : Terminal → Answer → State → Terminal
@@ -36,6 +37,11 @@ pub record FeedLeaves (t : Terminal) (d : Feed) (r : ℕ) (terminal : Terminal) 
   pub reply-is : reply ≡ d.reply
   pub read_is : read ≡ d.result.read
   pub replied-is : replied ≡ d.result.replied
+
+-- the same, of what the feeding by value returns: refused, the record is left, nothing was read and nothing sent
+abbrev pub FeedGives : Terminal → Feed → Result Fed Refusal → Buffers → List ℕ → Type 0
+FeedGives t d (Ok f) p o = FeedLeaves t d (number (cond f.full NoRoom Done)) f.terminal p o f.read f.replied
+FeedGives t d (Err e) p o = FeedLeaves t d (number (answer_of e)) t p o 0 0
 
 -- t is the record at entry, and d is `asked` of its state; the number returned, and the record, the changed rows, how many they are and the line's flag
 -- at exit

@@ -16,10 +16,20 @@ ghost use Rattle.record.specs.Record.{state_of};
 ghost use Rattle.pankholim.specs.Leaves.{StartLeaves, FeedLeaves, AskLeaves, ReadLeaves, RowLeaves, CursorLeaves, WriteLeaves};
 ghost use Rattle.pankholim.specs.Version.{version};
 
+use cells::BLANK;
+use cells::marks::count_rows;
 use record::Terminal;
+use record::from_state::{emptied, record_of};
+use record::numbers::flag_number;
+use record::plain::is_plain;
 use record::to_state::state_of;
-use terminal::rows;
-use text::{Written, text_len, write_text};
+use terminal::{calls, rows};
+use text::{text_len, write_text};
+
+// The scope's numbers of the answers that are no refusals.
+const DONE: u8 = 0;
+
+const NO_ROOM: u8 = 3;
 
 const MAJOR: u32 = 0;
 
@@ -45,9 +55,13 @@ pub fn pankholim_start(
     ensures { StartLeaves terminal.old (started rows (buffers page.old line.old))
         result terminal.new (buffers page.new line.new) }
 {
-    let outcome = by_value::start(*terminal, rows, page, line);
-    *terminal = outcome.terminal;
-    outcome.answer
+    match calls::start(rows, page, line) {
+        Ok(state) => {
+            *terminal = record_of(state);
+            DONE
+        }
+        Err(refusal) => refusal.into(),
+    }
 }
 
 // Feeds bytes from the modem, until the input ends or a reply does not fit.
@@ -64,12 +78,23 @@ pub fn pankholim_feed(
         (fed (state_of terminal.old) (buffers page.old line.old) input.now reply.old)
         result terminal.new (buffers page.new line.new) reply.new read.new replied.new }
 {
-    let outcome = by_value::feed(*terminal, page, line, input, reply, read, replied);
-    *terminal = outcome.terminal;
-    outcome.answer
+    match by_value::feed(*terminal, page, line, input, reply) {
+        Ok(fed) => {
+            *terminal = fed.terminal;
+            *read = fed.read;
+            *replied = fed.replied;
+            if fed.full { NO_ROOM } else { DONE }
+        }
+        Err(refusal) => {
+            *read = 0;
+            *replied = 0;
+            refusal.into()
+        }
+    }
 }
 
-// Asks for the changed rows, and whether the line changed; empties the set and clears the line's flag.
+// Asks for the changed rows, and whether the line changed; empties the set and clears the line's flag. A plain record is
+// asked and emptied as it lies.
 pub fn pankholim_ask(
     terminal: &mut Terminal,
     changed: &mut u64,
@@ -79,9 +104,28 @@ pub fn pankholim_ask(
     ensures { AskLeaves terminal.old (asked (state_of terminal.old))
         result terminal.new changed.new count.new flag.new }
 {
-    let outcome = by_value::ask(*terminal, changed, count, flag);
-    *terminal = outcome.terminal;
-    outcome.answer
+    if is_plain(*terminal) {
+        *changed = terminal.changed;
+        *count = count_rows(terminal.changed);
+        *flag = terminal.flag;
+        *terminal = emptied(*terminal);
+        return DONE;
+    }
+    match calls::ask(state_of(*terminal)) {
+        Ok(asked) => {
+            *terminal = record_of(asked.state);
+            *changed = asked.rows;
+            *count = asked.count;
+            *flag = flag_number(asked.flag);
+            DONE
+        }
+        Err(refusal) => {
+            *changed = 0;
+            *count = 0;
+            *flag = 0;
+            refusal.into()
+        }
+    }
 }
 
 // Reads a cell of the page by its row and column, counted from 1.
@@ -94,7 +138,16 @@ pub fn pankholim_read(
 ) -> u8
     ensures { ReadLeaves (cell_read (state_of terminal.now) page.now row column) result word.new }
 {
-    by_value::read(*terminal, page, row, column, word)
+    match by_value::read(*terminal, page, row, column) {
+        Ok(read) => {
+            *word = read;
+            DONE
+        }
+        Err(refusal) => {
+            *word = BLANK;
+            refusal.into()
+        }
+    }
 }
 
 // Reads a row of the active display, counted from 1: `part` is its 80 cells, where they lie in page or line, or none where
@@ -108,9 +161,16 @@ pub fn pankholim_row<'a>(
 ) -> u8
     ensures { RowLeaves (row_read (state_of terminal) (buffers page.now line.now) row) result part.new.now }
 {
-    let mut answer = 0;
-    *part = rows::row(state_of(terminal), page, line, row, &mut answer);
-    answer
+    match rows::row(state_of(terminal), page, line, row) {
+        Ok(cells) => {
+            *part = cells;
+            DONE
+        }
+        Err(refusal) => {
+            *part = &page[..0];
+            refusal.into()
+        }
+    }
 }
 
 // Reads the page's cursor: its row and column, counted from 1, whatever origin mode says, whether a
@@ -125,7 +185,29 @@ pub fn pankholim_cursor(
     ensures { CursorLeaves (cursor_read (state_of terminal.now))
         result row.new column.new wrap.new shown.new }
 {
-    by_value::cursor(*terminal, row, column, wrap, shown)
+    if is_plain(*terminal) {
+        *row = terminal.cursor.row as usize;
+        *column = terminal.cursor.column as usize;
+        *wrap = terminal.cursor.wrap;
+        *shown = terminal.modes.shown;
+        return DONE;
+    }
+    match calls::cursor(state_of(*terminal)) {
+        Ok(cursor) => {
+            *row = cursor.row as usize;
+            *column = cursor.column as usize;
+            *wrap = flag_number(cursor.wrap);
+            *shown = flag_number(cursor.shown);
+            DONE
+        }
+        Err(refusal) => {
+            *row = 0;
+            *column = 0;
+            *wrap = 0;
+            *shown = 0;
+            refusal.into()
+        }
+    }
 }
 
 // How many bytes the text of a page takes.
@@ -141,13 +223,13 @@ pub fn pankholim_write_text(page: &[u16], out: &mut [u8], len: &mut usize) -> u8
     ensures { WriteLeaves page.now out.old result out.new len.new }
 {
     match write_text(page, out) {
-        Written::Complete { len: n } => {
+        Ok(n) => {
             *len = n;
-            0
+            DONE
         }
-        Written::TooSmall => {
+        Err(_) => {
             *len = text_len(page);
-            3
+            NO_ROOM
         }
     }
 }

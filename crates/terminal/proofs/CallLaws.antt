@@ -1,28 +1,29 @@
 -- Each call's definition, by case.
-use Rattle.std.proofs.Common.{◌≡◌, ℕ, ◌+◌, ◌-◌, ◌*◌, ◌^◌, ◌≤◌, Bool, true, false, cond, not, ◌&&◌, ◌||◌, ltb, List, [], ◌∷◌, length, sym, refl, ap, ◌∙◌, true≢false, arith, ltb-true, lt-ltb, eq-eqb, eqb-true}
+use Rattle.std.proofs.Common.{◌≡◌, ℕ, ◌+◌, ◌-◌, ◌*◌, ◌^◌, ◌≤◌, Bool, true, false, cond, ltb, List, [], ◌∷◌, length, sym, refl, ap, ◌∙◌, true≢false, arith, ltb-true, lt-ltb, eq-eqb, eqb-true}
 use mathlib.Core.Bool.{false≢true}
-use borrow.Author.Tests.{not-false}
 use Rattle.core_state.specs.declared.Displays.{Displays}
 use Rattle.core_state.specs.Bounds.{OnPage}
-use Rattle.core_state.specs.Whole.{sized, whole_displays, WholeDisplays}
+use Rattle.core_state.specs.Whole.{whole_displays, WholeDisplays}
 use Rattle.ground.specs.Tests.{between}
 use Rattle.ground.proofs.TestLaws.{and_left, and_right, and_both, between-low, between-high}
-use Rattle.wholeness.proofs.Wholeness.{placed, sized_rows, core-sized, displays-core, displays-facts, displays-tested}
+use Rattle.wholeness.proofs.Wholeness.{placed, core-sized, displays-core, displays-facts, displays-tested}
 use Rattle.wholeness.proofs.SoundDisplays.{sends-few}
 use Rattle.steps.specs.Steps.{Buffers, readable}
 use Rattle.steps.proofs.StepLaws.{readable-fits}
 use Rattle.steps.specs.declared.State.{State}
+use Rattle.feeding.specs.declared.bytes.FedBytes.{FedBytes}
 use Rattle.feeding.specs.Bytes.{Feeding, read_count, bytes_fed}
-use Rattle.terminal.specs.declared.Answer.{Answer}
-use Rattle.terminal.specs.declared.Answer.TheVariants.{Done, Broken, WrongSize, NoRoom, OffPage}
-use Rattle.terminal.specs.Answers.{number, refusal}
+use Rattle.std.specs.Prelude.{Result, Ok, Err, IsOk}
+use Rattle.terminal.specs.declared.Refusal.{Refusal}
+use Rattle.terminal.specs.declared.Refusal.TheVariants as R
+use Rattle.terminal.specs.Answers.{Answer, Done, Broken, WrongSize, NoRoom, OffPage, number, refusal, answer_of, whole_checked, sizes_checked, checked}
 use Rattle.steps.specs.Whole.{right_size, right_sizes, whole_state, WholeState}
 use Rattle.terminal.specs.Start.{start_answer, start_gives, started}
-use Rattle.terminal.specs.Feed.{fitting, feed_as, feed_first, feed_refused, feed_gives, fed, Untouched}
+use Rattle.terminal.specs.Feed.{Feed, fitting, feed_as, feed_told, feed_first, feed_refused, feed_gives, fed, Untouched}
 pub use Rattle.terminal.specs.Feed.{Taken}
 use Rattle.terminal.specs.Ask.{ask_done, ask_refused, asked}
 use Rattle.terminal.specs.Read.{on_page, read_answer, read_gives, cell_read}
-use Rattle.terminal.specs.Row.{active_rows, active_cells, row_answer, row_cells, row_gives, row_read}
+use Rattle.terminal.specs.Row.{active_rows, active_cells, row_answer, row_gives, row_told, row_read}
 
 -- ---- whole states
 
@@ -43,24 +44,53 @@ state-tested s w =
     and_both (whole_displays s.displays) (ltb s.tracked.changed (2 ^ s.displays.core.rows))
     (displays-tested s.displays w.size w.displays) (lt-ltb s.tracked.changed (2 ^ s.displays.core.rows) w.changed)
 
+pub refusing : (e : Refusal) → refusal (answer_of e) ≡ true
+refusing R.Broken = refl
+refusing R.WrongSize = refl
+refusing R.OffPage = refl
+
+-- ---- the tests before a call
+
+abbrev test : Bool → Refusal → Result (Unit {0}) Refusal
+test t x = cond t (Ok tt) (Err x)
+
+test-passed : (t : Bool) (x : Refusal) (u : Unit {0}) → Ok u ≡ test t x → t ≡ true
+test-passed true x u h = refl
+test-passed false x u h = absurd (cc)
+
+test-refused : (t : Bool) (x e : Refusal) → Err e ≡ test t x → (t ≡ false) × (e ≡ x)
+test-refused true x e h = absurd (cc)
+test-refused false x e h = (refl, cc)
+
+pub whole-passed : (s : State) (u : Unit {0}) → Ok u ≡ whole_checked s → whole_state s ≡ true
+whole-passed s u h = test-passed (whole_state s) R.Broken u h
+
+pub whole-refused : (s : State) (e : Refusal) → Err e ≡ whole_checked s → (whole_state s ≡ false) × (e ≡ R.Broken)
+whole-refused s e h = test-refused (whole_state s) R.Broken e h
+
+pub sizes-passed : (r : ℕ) (p : Buffers) (u : Unit {0}) → Ok u ≡ sizes_checked r p → right_sizes r p ≡ true
+sizes-passed r p u h = test-passed (right_sizes r p) R.WrongSize u h
+
+pub sizes-refused : (r : ℕ) (p : Buffers) (e : Refusal) → Err e ≡ sizes_checked r p → (right_sizes r p ≡ false) × (e ≡ R.WrongSize)
+sizes-refused r p e h = test-refused (right_sizes r p) R.WrongSize e h
+
+pub passed : (s : State) (p : Buffers) (u : Unit {0}) → Ok u ≡ checked s p → Taken s p
+passed s p u h = go (whole_state s) refl h
+  where
+    go : (t : Bool) → whole_state s ≡ t → Ok u ≡ cond t (sizes_checked s.displays.core.rows p) (Err R.Broken) → Taken s p
+    go true e h = record { whole = e; sizes = sizes-passed s.displays.core.rows p u h }
+    go false e h = absurd (cc)
+
+-- which of the two it is
+pub refused-cases : {C : Type 0} (s : State) (p : Buffers) (e : Refusal) → Err e ≡ checked s p → (whole_state s ≡ false → e ≡ R.Broken → C)
+    → (whole_state s ≡ true → right_sizes s.displays.core.rows p ≡ false → e ≡ R.WrongSize → C) → C
+refused-cases {C} s p e h broken size = go (whole_state s) refl h
+  where
+    go : (t : Bool) → whole_state s ≡ t → Err e ≡ cond t (sizes_checked s.displays.core.rows p) (Err R.Broken) → C
+    go true w h = let r = sizes-refused s.displays.core.rows p e h in size w r.0 r.1
+    go false w h = broken w cc
+
 -- ---- lengths
-
--- as the code tests them
-pub wrong-sizes : (r : ℕ) (p : Buffers) → (not (right_size r p.page) || not (right_size 1 p.line)) ≡ true → right_sizes r p ≡ false
-wrong-sizes r p = go (right_size r p.page) (right_size 1 p.line)
-  where
-    go : (a b : Bool) → (not a || not b) ≡ true → (a && b) ≡ false
-    go true true h = absurd (false≢true h)
-    go true false h = refl
-    go false b h = refl
-
-pub right-sizes : (r : ℕ) (p : Buffers) → (not (right_size r p.page) || not (right_size 1 p.line)) ≡ false → right_sizes r p ≡ true
-right-sizes r p = go (right_size r p.page) (right_size 1 p.line)
-  where
-    go : (a b : Bool) → (not a || not b) ≡ false → (a && b) ≡ true
-    go true true h = refl
-    go true false h = absurd (true≢false h)
-    go false b h = absurd (true≢false h)
 
 pub sizes-fit : (r : ℕ) (p : Buffers) → right_sizes r p ≡ true → (length p.page ≡ 80 * r) × (length p.line ≡ 80)
 sizes-fit r p e = (
@@ -90,6 +120,9 @@ module _ (s : State) (p : Buffers) (i o : List ℕ) where
   unfolding fed
   fed-processed e h = rw (e, h) (fitting-gives (ltb (read_count s i o) (length i)))
 
+  pub fed-refused : (e : Refusal) → Err e ≡ checked s p → feed_refused (answer_of e) s p o ≡ fed s p i o
+  fed-refused e h = refused-cases s p e h (λ w is. rw is (sym (fed-broken w))) (λ w n is. rw is (sym (fed-size w n)))
+
   -- what the loop over the input leaves, with its answer
   pub fed-bytes : (f : Feeding) → f ≡ bytes_fed s p i o → whole_state s ≡ true → right_sizes s.displays.core.rows p ≡ true
       → feed_as (cond f.result.full NoRoom Done) f.result.read f.result.replied f.result.state f.buffers f.reply ≡ fed s p i o
@@ -113,6 +146,12 @@ fitting-refusal false = refl
 
 pub fed-accepted : (s : State) (p : Buffers) (i o : List ℕ) → Taken s p → refusal (fed s p i o).result.answer ≡ false
 fed-accepted s p i o w = rw (fed-processed s p i o w.whole w.sizes) (fitting-refusal (ltb (read_count s i o) (length i)))
+
+-- so its call is `Ok`
+pub fed-ok : (s : State) (p : Buffers) (i o : List ℕ) (r : Result FedBytes Refusal) (q : Buffers) (o' : List ℕ) → Taken s p
+    → feed_told s r q o' ≡ fed s p i o → IsOk r
+fed-ok s p i o (Ok f) q o' w e = refl
+fed-ok s p i o (Err x) q o' w e = absurd (true≢false (sym (refusing x) ∙ ap (λ (f : Feed). refusal f.result.answer) e ∙ fed-accepted s p i o w))
 
 pub fitting-number : (t : Bool) → number (cond t NoRoom Done) ≡ cond t 3 0
 fitting-number true = refl
@@ -189,22 +228,15 @@ row_done s p r h = go (whole_state s) refl (right_sizes s.displays.core.rows p) 
     go true ew false et u eu h = absurd (true≢false h)
     go false ew t et u eu h = absurd (true≢false h)
 
--- a refused one hands back nothing
-pub row-refused : (a : Answer) (s : State) (p : Buffers) (r : ℕ) → refusal a ≡ true → row_cells a s p r ≡ []
-row-refused Done s p r h = absurd (false≢true h)
-row-refused Broken s p r h = refl
-row-refused WrongSize s p r h = refl
-row-refused NoRoom s p r h = refl
-row-refused OffPage s p r h = refl
-
 pub row_as : (s : State) (p : Buffers) (r : ℕ) (a : Answer) → row_answer s p r ≡ a → row_read s p r ≡ row_gives a s p r
 unfolding row_read
 row_as s p r a e = ap (λ (x : Answer). row_gives x s p r) e
 
--- ---- the start
+pub row-told-refused : (s : State) (p : Buffers) (r : ℕ) (e : Refusal) → Err e ≡ checked s p → row_told (Err e) ≡ row_read s p r
+unfolding row_read
+row-told-refused s p r e h = refused-cases s p e h (λ w is. rw (is, w)) (λ w n is. rw (is, w, n))
 
-pub few-rows : (r : ℕ) → not (sized r) ≡ false → r ≤ 48
-few-rows r e = (sized_rows r (not-false (sized r) e)).high
+-- ---- the start
 
 pub started-as : (r : ℕ) (p : Buffers) (a : Answer) → start_answer r p ≡ a → started r p ≡ start_gives a r p
 unfolding started

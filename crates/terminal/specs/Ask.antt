@@ -1,12 +1,19 @@
 -- Asking for the changed rows: the set, how many rows are in it, the line's flag, and the state with the set emptied and the flag cleared.
-use Rattle.std.specs.Prelude.{ℕ, Bool, false, cond}
+use Rattle.std.specs.Prelude.{ℕ, Bool, false, cond, Result, Ok, Err}
 use Rattle.cells.specs.Sets.{size_of, has_bit}
 use Rattle.steps.specs.declared.State.{State}
-use Rattle.terminal.specs.declared.Asked.{Asked}
-use Rattle.terminal.specs.declared.Answer.{Answer}
-use Rattle.terminal.specs.declared.Answer.TheVariants.{Done, Broken, WrongSize, NoRoom, OffPage}
-use Rattle.terminal.specs.Answers.{number}
+use Rattle.terminal.specs.declared.Asked.{Asked as Report}
+use Rattle.terminal.specs.declared.Refusal.{Refusal}
+use Rattle.terminal.specs.Answers.{Answer, Done, Broken, WrongSize, NoRoom, OffPage, number, answer_of}
 use Rattle.steps.specs.Whole.{whole_state}
+
+-- the answer, the changed rows, how many they are, the line's flag, and the state
+pub record Asked : Type 0 where
+  pub answer : Answer
+  pub rows : ℕ
+  pub count : ℕ
+  pub flag : Bool
+  pub state : State
 
 -- the answer's number, and the result
 pub record Ask : Type 0 where
@@ -40,3 +47,8 @@ ask_gives OffPage s = ask_refused OffPage s
 
 unfoldable pub asked : State → Ask
 asked s = ask_gives (ask_answer s) s
+
+-- what was returned, of a state as it came, as the definition has it
+abbrev pub ask_told : State → Result Report Refusal → Ask
+ask_told s (Ok a) = ask_as Done a.rows a.count a.flag a.state
+ask_told s (Err e) = ask_refused (answer_of e) s

@@ -1,12 +1,19 @@
 -- Reading the cursor: its row and column on the page, counted from 1, whatever origin mode says, whether a wrap is due, and whether it is
 -- shown. Refused, row 0 and column 0, and neither.
-use Rattle.std.specs.Prelude.{ℕ, Bool, false, cond}
+use Rattle.std.specs.Prelude.{ℕ, Bool, false, cond, Result, Ok, Err}
 use Rattle.steps.specs.declared.State.{State}
-use Rattle.terminal.specs.declared.CursorRead.{CursorRead}
-use Rattle.terminal.specs.declared.Answer.{Answer}
-use Rattle.terminal.specs.declared.Answer.TheVariants.{Done, Broken, WrongSize, NoRoom, OffPage}
-use Rattle.terminal.specs.Answers.{number}
+use Rattle.terminal.specs.declared.CursorRead.{CursorRead as CursorFound}
+use Rattle.terminal.specs.declared.Refusal.{Refusal}
+use Rattle.terminal.specs.Answers.{Answer, Done, Broken, WrongSize, NoRoom, OffPage, number, answer_of}
 use Rattle.steps.specs.Whole.{whole_state}
+
+-- the answer, and what is told of the cursor
+pub record CursorRead : Type 0 where
+  pub answer : Answer
+  pub row : ℕ
+  pub column : ℕ
+  pub wrap : Bool
+  pub shown : Bool
 
 -- the answer's number, and the result
 pub record CursorReading : Type 0 where
@@ -38,3 +45,8 @@ cursor_gives OffPage s = cursor_refused OffPage
 
 unfoldable pub cursor_read : State → CursorReading
 cursor_read s = cursor_gives (cursor_answer s) s
+
+-- what was returned, as the definition has it
+abbrev pub cursor_told : Result CursorFound Refusal → CursorReading
+cursor_told (Ok c) = cursor_as Done c.row c.column c.wrap c.shown
+cursor_told (Err e) = cursor_refused (answer_of e)

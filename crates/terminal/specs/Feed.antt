@@ -1,14 +1,20 @@
 -- Feeding bytes: the whole result, and what is left in page, line and reply buffer.
-use Rattle.std.specs.Prelude.{◌≡◌, ℕ, true, cond, List, length, take, nat_lt}
+use Rattle.std.specs.Prelude.{◌≡◌, ℕ, true, cond, List, length, take, nat_lt, Result, Ok, Err}
 use Rattle.std.proofs.lemmas.List.Edits.{sets}
 use Rattle.steps.specs.declared.State.{State}
-use Rattle.terminal.specs.declared.Fed.{Fed}
-use Rattle.terminal.specs.declared.Answer.{Answer}
-use Rattle.terminal.specs.declared.Answer.TheVariants.{Done, Broken, WrongSize, NoRoom, OffPage}
-use Rattle.terminal.specs.Answers.{number}
+use Rattle.terminal.specs.declared.Refusal.{Refusal}
+use Rattle.terminal.specs.Answers.{Answer, Done, Broken, WrongSize, NoRoom, OffPage, number, answer_of}
 use Rattle.steps.specs.Steps.{Buffers, screen, ran, sent}
+use Rattle.feeding.specs.declared.bytes.FedBytes.{FedBytes}
 use Rattle.feeding.specs.Bytes.{read_count}
 use Rattle.steps.specs.Whole.{whole_state, right_sizes}
+
+-- the answer, how many bytes of the input were read and how many of the reply buffer written, and the state
+pub record Fed : Type 0 where
+  pub answer : Answer
+  pub read : ℕ
+  pub replied : ℕ
+  pub state : State
 
 -- the answer's number, the result, and what is left in page, line and reply buffer
 pub record Feed : Type 0 where
@@ -64,3 +70,8 @@ pub record Untouched (s : State) (p : Buffers) (o : List ℕ) (f : Feed) : Type 
 pub record Taken (s : State) (p : Buffers) : Type 0 where
   pub whole : whole_state s ≡ true
   pub sizes : right_sizes s.displays.core.rows p ≡ true
+
+-- what was returned, of a state as it came, and what is left, as the definition has it
+abbrev pub feed_told : State → Result FedBytes Refusal → Buffers → List ℕ → Feed
+feed_told s (Ok f) q o = feed_as (cond f.full NoRoom Done) f.read f.replied f.state q o
+feed_told s (Err e) q o = feed_refused (answer_of e) s q o

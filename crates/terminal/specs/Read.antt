@@ -1,12 +1,10 @@
 -- Reading a cell by its row and column, counted from 1. Refused, a blank one.
-use Rattle.std.specs.Prelude.{ℕ, ◌+◌, ◌-◌, ◌*◌, Bool, cond, ◌&&◌, List, slice_index}
+use Rattle.std.specs.Prelude.{ℕ, ◌+◌, ◌-◌, ◌*◌, Bool, cond, ◌&&◌, List, slice_index, Result, Ok, Err}
 use Rattle.cells.specs.Cells.{blank}
 use Rattle.ground.specs.Tests.{between}
 use Rattle.steps.specs.declared.State.{State}
-use Rattle.terminal.specs.declared.CellRead.{CellRead}
-use Rattle.terminal.specs.declared.Answer.{Answer}
-use Rattle.terminal.specs.declared.Answer.TheVariants.{Done, Broken, WrongSize, NoRoom, OffPage}
-use Rattle.terminal.specs.Answers.{number}
+use Rattle.terminal.specs.declared.Refusal.{Refusal}
+use Rattle.terminal.specs.Answers.{Answer, Done, Broken, WrongSize, NoRoom, OffPage, number, answer_of}
 use Rattle.steps.specs.Whole.{whole_state, right_size}
 
 abbrev pub on_page : ℕ → ℕ → ℕ → Bool
@@ -14,6 +12,11 @@ on_page rows r c = between 1 r rows && between 1 c 80
 
 abbrev pub cell_at : List ℕ → ℕ → ℕ → ℕ
 cell_at p r c = slice_index p (80 * (r - 1) + (c - 1))
+
+-- the answer, and the word of the cell
+pub record CellRead : Type 0 where
+  pub answer : Answer
+  pub word : ℕ
 
 -- the answer's number, and the result
 pub record Read : Type 0 where
@@ -45,3 +48,8 @@ read_gives a p r c = record { number = number a; result = record { answer = a; w
 
 unfoldable pub cell_read : State → List ℕ → ℕ → ℕ → Read
 cell_read s p r c = read_gives (read_answer s p r c) p r c
+
+-- what was returned, as the definition has it
+abbrev pub read_told : Result ℕ Refusal → Read
+read_told (Ok word) = record { number = 0; result = record { answer = Done; word = word } }
+read_told (Err e) = record { number = number (answer_of e); result = record { answer = answer_of e; word = blank } }

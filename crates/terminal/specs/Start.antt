@@ -1,14 +1,12 @@
 -- Starting: every cell of page and line blank, and the state fresh. Refused, it returns the fresh 24-row state and leaves both.
-use Rattle.std.specs.Prelude.{ℕ, ◌*◌, cond, List, replicate}
+use Rattle.std.specs.Prelude.{ℕ, ◌*◌, cond, List, replicate, Result, Ok, Err}
 use Rattle.cells.specs.Cells.{blank}
 use Rattle.core_state.specs.Whole.{sized}
 use Rattle.core_state.specs.Fresh.{fresh_core}
 use Rattle.core_state.specs.StatusLine.{fresh_line}
 use Rattle.steps.specs.declared.State.{State}
-use Rattle.terminal.specs.declared.Started.{Started}
-use Rattle.terminal.specs.declared.Answer.{Answer}
-use Rattle.terminal.specs.declared.Answer.TheVariants.{Done, Broken, WrongSize, NoRoom, OffPage}
-use Rattle.terminal.specs.Answers.{number}
+use Rattle.terminal.specs.declared.Refusal.{Refusal}
+use Rattle.terminal.specs.Answers.{Answer, Done, Broken, WrongSize, NoRoom, OffPage, number, answer_of}
 use Rattle.steps.specs.Steps.{nothing_tracked, Buffers, buffers}
 use Rattle.steps.specs.Whole.{right_sizes}
 
@@ -20,6 +18,11 @@ blank_page r = replicate (80 * r) blank
 
 abbrev pub blank_buffers : ℕ → Buffers
 blank_buffers r = buffers (blank_page r) (blank_page 1)
+
+-- the answer, and the state that a start begins with
+pub record Started : Type 0 where
+  pub answer : Answer
+  pub state : State
 
 -- the answer's number, the result, and what is left in page and line
 pub record Start : Type 0 where
@@ -47,3 +50,8 @@ start_gives OffPage r p = start_refused OffPage p
 
 unfoldable pub started : ℕ → Buffers → Start
 started r p = start_gives (start_answer r p) r p
+
+-- what was returned, and what is left in page and line, as the definition has it
+abbrev pub start_told : Result State Refusal → Buffers → Start
+start_told (Ok s) q = start_as Done s q
+start_told (Err e) q = start_refused (answer_of e) q

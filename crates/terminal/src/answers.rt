@@ -1,29 +1,31 @@
-// The scope's number of an answer, and which answers refuse.
+// A refusal in words, and as the scope's number.
 ghost use Rattle.std.specs.Prelude.{◌≡◌};
-ghost use Rattle.terminal.specs.Answers as answers;
+ghost use Rattle.terminal.specs.Answers.{number, answer_of};
 
-use crate::Answer;
+use crate::Refusal;
+use std::error::Error;
+use std::fmt;
 
-pub fn number(answer: Answer) -> u8
-    ensures { result ≡ answers.number answer }
-{
-    match answer {
-        Answer::Done => 0,
-        Answer::Broken => 1,
-        Answer::WrongSize => 2,
-        Answer::NoRoom => 3,
-        Answer::OffPage => 4,
+impl fmt::Display for Refusal {
+    fn fmt<W: fmt::Write>(&self, f: &mut fmt::Formatter<W>) -> fmt::Result {
+        f.write_str(match self {
+            Refusal::Broken => "the state is not whole",
+            Refusal::WrongSize => "page or line is of another length",
+            Refusal::OffPage => "there is no such row or cell",
+        })
     }
 }
 
-pub fn is_refusal(answer: Answer) -> bool
-    ensures { result ≡ answers.refusal answer }
-{
-    match answer {
-        Answer::Done => false,
-        Answer::Broken => true,
-        Answer::WrongSize => true,
-        Answer::NoRoom => false,
-        Answer::OffPage => true,
+impl Error for Refusal {}
+
+impl From<Refusal> for u8 {
+    ghost from_gives = { λ refusal n. n ≡ number (answer_of refusal) };
+
+    fn from(refusal: Refusal) -> u8 {
+        match refusal {
+            Refusal::Broken => 1,
+            Refusal::WrongSize => 2,
+            Refusal::OffPage => 4,
+        }
     }
 }

@@ -1,12 +1,11 @@
 // Reading a row: the part of whichever display is active that holds it.
-ghost use Rattle.std.specs.Prelude.{◌≡◌, ◌+◌, ◌*◌, ◌≤◌, [], length, if◌then◌else◌};
+ghost use Rattle.std.specs.Prelude.{◌≡◌, ◌+◌, ◌*◌, ◌≤◌, length, if◌then◌else◌};
 ghost use Rattle.cells.specs.Rows.{row as row_of};
 ghost use Rattle.steps.specs.Steps.{buffers};
-ghost use Rattle.terminal.specs.Row.{active_rows, row_answer, row_read};
+ghost use Rattle.terminal.specs.Row.{active_rows, row_told, row_read};
 
-use crate::Answer;
-use crate::answers::{is_refusal, number};
-use crate::whole::is_whole;
+use crate::Refusal;
+use crate::whole::check;
 use steps::State;
 
 // How many rows the active display has.
@@ -17,23 +16,6 @@ fn active_rows(state: State) -> usize
         return 1;
     }
     state.displays.core.rows as usize
-}
-
-// Both lengths are looked at, whichever display is active.
-fn answer_to(state: State, page: &[u16], line: &[u16], row: usize) -> Answer
-    ensures { result ≡ row_answer state (buffers page.now line.now) row }
-{
-    if !is_whole(state) {
-        return Answer::Broken;
-    }
-    let rows = state.displays.core.rows as usize;
-    if (page.len() != 80 * rows) | (line.len() != 80) {
-        return Answer::WrongSize;
-    }
-    if (1 <= row) & (row <= active_rows(state)) {
-        return Answer::Done;
-    }
-    Answer::OffPage
 }
 
 // The cells of the active display.
@@ -55,27 +37,20 @@ fn cells_of(cells: &[u16], row: usize) -> &[u16]
     &cells[from..from + 80]
 }
 
-fn no_cells(cells: &[u16]) -> &[u16]
-    ensures { result.now ≡ [] }
-{
-    &cells[0..0]
-}
-
-// Reads a row of the active display, counted from 1: its 80 cells, or none where it is refused. `answer` is the answer's number.
+// Reads a row of the active display, counted from 1: its 80 cells, where they lie in page or line.
 pub fn row<'a>(
     state: State,
     page: &'a [u16],
     line: &'a [u16],
     row: usize,
-    answer: &mut u8,
-) -> &'a [u16]
-    ensures { record { number = answer.new; cells = result.now } ≡ row_read state (buffers page.now line.now) row }
+) -> Result<&'a [u16], Refusal>
+    ensures { row_told result ≡ row_read state (buffers page.now line.now) row }
 {
-    let found = answer_to(state, page, line, row);
-    *answer = number(found);
-    let cells = active(state.displays.line.active, page, line);
-    if is_refusal(found) {
-        return no_cells(cells);
+    check(state, page, line)?;
+    if (1 <= row) & (row <= active_rows(state)) {
+        let cells = active(state.displays.line.active, page, line);
+        Ok(cells_of(cells, row - 1))
+    } else {
+        Err(Refusal::OffPage)
     }
-    cells_of(cells, row - 1)
 }

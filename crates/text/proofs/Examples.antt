@@ -6,7 +6,7 @@ use Prim.Native.Char.{code}
 use Prim.Native.String.{String}
 use lib.ListN.{replicate}
 use Rattle.cells.specs.Cells.{unpacked}
-use Rattle.text.specs.declared.Written.TheVariants.{Complete, TooSmall}
+use Rattle.std.specs.Prelude.{Ok, Err}
 use Rattle.text.specs.Text.{sign, trimmed, encoded, lines, text_of, written}
 
 -- the codes of a text whose characters are all below 80
@@ -33,10 +33,10 @@ unfolding unpacked sign encoded
 signs = refl
 
 -- a row that fits, and one that does not
-pub whole : written (0x48 ∷ 0x69 ∷ replicate 78 0x20) (1 ∷ 2 ∷ 3 ∷ 4 ∷ []) ≡ record { number = 0; result = Complete 3; buffer = 0x48 ∷ 0x69 ∷ 0x0A ∷ 4 ∷ [] }
+pub whole : written (0x48 ∷ 0x69 ∷ replicate 78 0x20) (1 ∷ 2 ∷ 3 ∷ 4 ∷ []) ≡ record { number = 0; result = Ok 3; buffer = 0x48 ∷ 0x69 ∷ 0x0A ∷ 4 ∷ [] }
 unfolding unpacked sign trimmed encoded lines text_of written
 whole = refl
 
-pub no_room : written (0x48 ∷ 0x69 ∷ replicate 78 0x20) (1 ∷ 2 ∷ []) ≡ record { number = 3; result = TooSmall; buffer = 1 ∷ 2 ∷ [] }
+pub no_room : written (0x48 ∷ 0x69 ∷ replicate 78 0x20) (1 ∷ 2 ∷ []) ≡ record { number = 3; result = Err (record {}); buffer = 1 ∷ 2 ∷ [] }
 unfolding unpacked sign trimmed encoded lines text_of written
 no_room = refl

@@ -8,7 +8,7 @@ use lib.ListN.{length, take, drop, length-append, length-take}
 use lib.Seq.{sets, drop-drop}
 use borrow.Author.Tests.{le-leb, lt-leb}
 use Rattle.cells.specs.Rows.{row, rows_of}
-use Rattle.text.specs.declared.Written.TheVariants.{Complete, TooSmall}
+use Rattle.std.specs.Prelude.{Ok, Err}
 use Rattle.text.specs.Text.{sign, trimmed, encoded, line, lines, text_of, page_text, write_as, written}
 use Rattle.text.proofs.Trimming.{trimmed-within}
 use Rattle.text.proofs.Encoding.{encoded-short}
@@ -60,11 +60,11 @@ text-short (suc n) p =
 -- ---- writing it
 
 module _ (p o : List ℕ) where
-  pub written-whole : length (page_text p) ≤ length o → written p o ≡ write_as (Complete (length (page_text p))) (sets o 0 (page_text p))
+  pub written-whole : length (page_text p) ≤ length o → written p o ≡ write_as (Ok (length (page_text p))) (sets o 0 (page_text p))
   unfolding written
   written-whole h = rw (le-leb (length (page_text p)) (length o) h)
 
-  pub written_none : length o < length (page_text p) → written p o ≡ write_as TooSmall o
+  pub written_none : length o < length (page_text p) → written p o ≡ write_as (Err (record {})) o
   unfolding written
   written_none h = rw (lt-leb (length (page_text p)) (length o) h)
 
@@ -75,7 +75,7 @@ page-text n p h = let e : length p / 80 ≡ n = omega arith in rw e
 
 -- a buffer of 241 bytes a row always holds it: 5,784 bytes for 24 rows
 pub always-whole : (n : ℕ) (p o : List ℕ) → length p ≡ 80 * n → 80 * 3 * n + n ≤ length o
-    → written p o ≡ write_as (Complete (length (text_of n p))) (sets o 0 (text_of n p))
+    → written p o ≡ write_as (Ok (length (text_of n p))) (sets o 0 (text_of n p))
 always-whole n p o h room =
     let e = page-text n p h in
     written-whole p o (omega (arith, ap length e, text-short n p)) ∙ rw e

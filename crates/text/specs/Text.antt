@@ -1,12 +1,11 @@
 -- The page as text (SCOPE 10): a line for each row, trailing U+0020 off, each closed by 0A, in UTF-8.
-use Rattle.std.specs.Prelude.{cond, ◌||◌, List, [], ◌∷◌, ◌++◌, map, ℕ, ◌+◌, ◌-◌, ◌/◌, ◌%◌, eqb, leb, ltb, length, get_or}
+use Rattle.std.specs.Prelude.{cond, Result, Ok, Err, ◌||◌, List, [], ◌∷◌, ◌++◌, map, ℕ, ◌+◌, ◌-◌, ◌/◌, ◌%◌, eqb, leb, ltb, length, get_or}
 use Rattle.std.proofs.lemmas.List.Edits.{sets}
 use Rattle.cells.specs.declared.CharSet.{CharSet}
 use Rattle.cells.specs.declared.CharSet.TheVariants.{Ascii, SpecialGraphics, Supplemental, Latin1}
 use Rattle.cells.specs.Cells.{unpacked}
 use Rattle.cells.specs.Rows.{rows_of}
-use Rattle.text.specs.declared.Written.{Written}
-use Rattle.text.specs.declared.Written.TheVariants.{Complete, TooSmall}
+use Rattle.text.specs.declared.TooSmall.{TooSmall}
 
 -- ---- the sign of a cell, as a code point
 
@@ -88,27 +87,27 @@ page_text p = text_of (length p / 80) p
 -- ---- writing it into a buffer
 
 -- the scope's numbers
-abbrev pub written_number : Written → ℕ
-written_number (Complete n) = 0
-written_number TooSmall = 3
+abbrev pub written_number : Result ℕ TooSmall → ℕ
+written_number (Ok n) = 0
+written_number (Err e) = 3
 
 -- the answer's number, the result, and what is left in the buffer
 pub record Write : Type 0 where
   pub number : ℕ
-  pub result : Written
+  pub result : Result ℕ TooSmall
   pub buffer : List ℕ
 
 -- given exactly when
-abbrev pub write_answer : List ℕ → List ℕ → Written
-write_answer t o = cond (leb (length t) (length o)) (Complete (length t)) TooSmall
+abbrev pub write_answer : List ℕ → List ℕ → Result ℕ TooSmall
+write_answer t o = cond (leb (length t) (length o)) (Ok (length t)) (Err (record {}))
 
-abbrev pub write_as : Written → List ℕ → Write
+abbrev pub write_as : Result ℕ TooSmall → List ℕ → Write
 write_as w o = record { number = written_number w; result = w; buffer = o }
 
 -- returned and left
-abbrev pub write_gives : Written → List ℕ → List ℕ → Write
-write_gives (Complete n) t o = write_as (Complete n) (sets o 0 t)
-write_gives TooSmall t o = write_as TooSmall o
+abbrev pub write_gives : Result ℕ TooSmall → List ℕ → List ℕ → Write
+write_gives (Ok n) t o = write_as (Ok n) (sets o 0 t)
+write_gives (Err e) t o = write_as (Err e) o
 
 -- a page and a buffer
 unfoldable pub written : List ℕ → List ℕ → Write

@@ -12,15 +12,20 @@ ghost use Rattle.ground.specs.Writes.{Wrote};
 
 use crate::lines::{line_len, write_line};
 use ground::writing::Writer;
+use std::error::Error;
+use std::fmt;
 
-// What writing a page as text answers.
-#[derive(Clone, Copy)]
-pub enum Written {
-    // So many bytes were written.
-    Complete { len: usize },
-    // The buffer is too small, and is left as it was.
-    TooSmall,
+// The buffer is too small for the text, and is left as it was.
+#[derive(Clone, Copy, Debug, PartialEq, Eq)]
+pub struct TooSmall;
+
+impl fmt::Display for TooSmall {
+    fn fmt<W: fmt::Write>(&self, f: &mut fmt::Formatter<W>) -> fmt::Result {
+        f.write_str("the buffer is too small for the text")
+    }
 }
+
+impl Error for TooSmall {}
 
 // A row of a page, counted from 0.
 fn row_of(page: &[u16], k: usize) -> &[u16]
@@ -53,14 +58,12 @@ fn write_rows(page: &[u16], out: &mut [u8]) -> usize
     writer.len
 }
 
-// Writes the text of a page into a buffer, whole or not at all.
-pub fn write_text(page: &[u16], out: &mut [u8]) -> Written
+// Writes the text of a page into a buffer, whole or not at all, and returns how many bytes it takes.
+pub fn write_text(page: &[u16], out: &mut [u8]) -> Result<usize, TooSmall>
     ensures { record { number = written_number result; result = result; buffer = out.new } ≡ written page.now out.old }
 {
     if out.len() < text_len(page) {
-        return Written::TooSmall;
+        return Err(TooSmall);
     }
-    Written::Complete {
-        len: write_rows(page, out),
-    }
+    Ok(write_rows(page, out))
 }

@@ -9,12 +9,13 @@ use Rattle.record.specs.Plain.{plain}
 use Rattle.record.specs.Record.{state_of}
 use Rattle.record.proofs.PlainLaws.{plain-whole}
 use Rattle.record.proofs.EmptiedLaws.{named-with, whole-named}
-use Rattle.terminal.proofs.CallLaws.{sizes-fit}
+use Rattle.std.proofs.Common.{rules}
+use Rattle.terminal.proofs.CallLaws.{sizes-fit, whole-passed}
 use Rattle.inplace.specs.InPlace.{takes_in_place}
 use Rattle.inplace.proofs.PlaceLaws.{taking}
-use Rattle.pankholim.proofs.CallLaws.{feed-broken, feed-sized, feed-takes, feed-put, feed-leaves}
+use Rattle.pankholim.proofs.CallLaws.{feed-broken, feed-sized, feed-takes, feed-put, feed-done}
 use Rattle.pankholim.proofs.by_value.feed.Goals as goal
-use Rattle.pankholim.proofs.by_value.feed.Goals.{Joined-not-plain, Then-plain-right, Then-takes, then-not-plain+else-not-is_whole_record, else-not-plain}
+use Rattle.pankholim.proofs.by_value.feed.Goals.{Joined-not-plain, Then-plain-right, Then-takes, then-not-plain+in_ok-check_record, else-not-plain}
 
 -- ---- in place
 
@@ -39,8 +40,8 @@ moved-requires c =
 pub returns-then-takes : goal.returns-then-takes
 returns-then-takes c =
     let a = c.args in
-    feed-put a.terminal (buffers c.args.page.now c.args.line.now) a.input.now a.reply.now _ c.moved.result _ (sizes-fit a.terminal.rows (buffers c.args.page.now c.args.line.now) (fits (goal.at.returns-then-takes c).Then-plain-right)).1
-    (rw c.moved.ensures c.put_in_place-changed.ensures) c.number.ensures
+    feed-put a.terminal (buffers c.args.page.now c.args.line.now) a.input.now a.reply.now c.moved.result _ (sizes-fit a.terminal.rows (buffers c.args.page.now c.args.line.now) (fits (goal.at.returns-then-takes c).Then-plain-right)).1
+    (rw c.moved.ensures c.put_in_place-changed.ensures)
 
 pub steered-requires : goal.steered-requires
 steered-requires c =
@@ -50,20 +51,17 @@ pub returns-then-steers : goal.returns-then-steers
 returns-then-steers c =
     let a = c.args in
     let sizes = sizes-fit a.terminal.rows (buffers c.args.page.now c.args.line.now) (fits (goal.at.returns-then-steers c).Then-plain-right) in
-    feed-put a.terminal (buffers c.args.page.now c.args.line.now) a.input.now a.reply.now _ c.steered.result _ sizes.1 (c.steered.ensures _ sizes.0) c.number-then-steers.ensures
+    feed-put a.terminal (buffers c.args.page.now c.args.line.now) a.input.now a.reply.now c.steered.result _ sizes.1 (c.steered.ensures _ sizes.0)
 
 -- ---- by its state
 
-pub returns-then-not-is_whole_record : goal.returns-then-not-is_whole_record
-returns-then-not-is_whole_record c =
-    let no = c.refused.ensures in
-    let a = c.args in
-    rw (no.1, no.2, no.3) (feed-broken a.terminal (buffers c.args.page.now c.args.line.now) a.input.now a.reply.now _ (sym c.is_whole_record.ensures ∙ c.if-not-is_whole_record.true) no.0)
+pub returns-in_err-check_record : goal.returns-in_err-check_record
+returns-in_err-check_record c = search (rules, feed-broken)
 
 whole : (c : Joined-not-plain) → whole_state (state_of c.args.terminal) ≡ true
 whole c =
     elim c.if-not-plain.branch [
-      | then-not-plain+else-not-is_whole_record w ↦ sym w.is_whole_record.ensures ∙ w.if-not-is_whole_record.false
+      | then-not-plain+in_ok-check_record w ↦ whole-passed (state_of c.args.terminal) tt w.in_ok-check_record.ensures
       | else-not-plain n ↦ plain-whole c.args.terminal (sym c.is_plain-plain.ensures ∙ n.if-not-plain.false)
     ]
 
@@ -75,9 +73,8 @@ is_state c =
 
 pub returns-then-not-right : goal.returns-then-not-right
 returns-then-not-right c =
-    let no = c.refused-then-not-right.ensures in
     let a = c.args in
-    rw (no.1, no.2, no.3) (feed-sized a.terminal (buffers c.args.page.now c.args.line.now) a.input.now a.reply.now _ (whole (goal.at.returns-then-not-right c).Joined-not-plain) (c.if-not-right.true) no.0)
+    feed-sized a.terminal (buffers a.page.now a.line.now) a.input.now a.reply.now (whole (goal.at.returns-then-not-right c).Joined-not-plain) c.if-not-right.true
 
 pub feed_whole-done-requires : goal.feed_whole-done-requires
 feed_whole-done-requires c =
@@ -87,5 +84,5 @@ feed_whole-done-requires c =
 pub returns : goal.returns
 returns c =
     let a = c.args in
-    feed-leaves a.terminal _ (buffers c.args.page.now c.args.line.now) a.input.now a.reply.now c.feed_whole-done.result _ _ _ _ (is_state (goal.at.returns c).Joined-not-plain) c.feed_whole-done.ensures
-    c.number-2.ensures c.record_left.ensures
+    feed-done a.terminal _ (buffers a.page.now a.line.now) a.input.now a.reply.now c.feed_whole-done.result _ _ _
+    (is_state (goal.at.returns c).Joined-not-plain) c.feed_whole-done.ensures c.record_of.ensures

@@ -1,24 +1,20 @@
 -- What the loop over the input leaves, with its answer.
-use Rattle.steps.specs.Steps.{Buffers, buffers}
+use Rattle.steps.specs.Steps.{buffers}
 use Rattle.terminal.proofs.CallLaws.{state-facts, sizes-fit, fed-bytes}
 use Rattle.terminal.proofs.calls.feed_whole.Goals as goal
-use Rattle.terminal.proofs.calls.feed_whole.Goals.{Start}
 
--- what is lent
-abbrev lent_to : Start → Buffers
-lent_to start = buffers start.args.page.now start.args.line.now
-
-pub feed_bytes-done-requires : goal.feed_bytes-done-requires
-feed_bytes-done-requires c =
-    let sizes = sizes-fit c.args.state.displays.core.rows (lent_to (goal.at.feed_bytes-done-requires c).Start) c.requires.sizes in
-    (record { whole = state-facts c.args.state c.requires.whole; size = sizes.0 }, sizes.1)
+pub feed_bytes-requires : goal.feed_bytes-requires
+feed_bytes-requires c =
+    let a = c.args in
+    let sizes = sizes-fit a.state.displays.core.rows (buffers a.page.now a.line.now) c.requires.sizes in
+    (record { whole = state-facts a.state c.requires.whole; size = sizes.0 }, sizes.1)
 
 pub returns : goal.returns
 returns c =
-    rw c.fitting.ensures
-    (fed-bytes c.args.state (lent_to (goal.at.returns c).Start) c.args.input.now c.args.reply.now
+    let a = c.args in
+    fed-bytes a.state (buffers a.page.now a.line.now) a.input.now a.reply.now
     (record {
-      result = c.feed_bytes-done.result;
-      buffers = buffers c.feed_bytes-done.new.page c.feed_bytes-done.new.cells;
-      reply = c.feed_bytes-done.new.reply;
-    }) c.feed_bytes-done.ensures c.requires.whole c.requires.sizes)
+      result = c.feed_bytes.result;
+      buffers = buffers c.feed_bytes.new.page c.feed_bytes.new.cells;
+      reply = c.feed_bytes.new.reply;
+    }) c.feed_bytes.ensures c.requires.whole c.requires.sizes

@@ -1,13 +1,13 @@
 -- Refused for a state that is not whole; else as a cell of its page is read.
-use Rattle.std.proofs.Common.{sym, ◌∙◌}
+use Rattle.std.proofs.Common.{rules}
 use Rattle.terminal.specs.Read.{cell_read}
+use Rattle.terminal.proofs.CallLaws.{whole-passed, whole-refused}
 use Rattle.terminal.proofs.calls.read.Goals as goal
 
-pub returns-then-not-is_whole : goal.returns-then-not-is_whole
+pub returns-in_err-check_whole : goal.returns-in_err-check_whole
 unfolding cell_read
-returns-then-not-is_whole c = rw (sym c.is_whole.ensures ∙ c.if-not-is_whole.true)
+returns-in_err-check_whole c = search (rules, whole-refused)
 
 pub returns : goal.returns
 unfolding cell_read
-returns c =
-    rw (sym c.is_whole.ensures ∙ c.if-not-is_whole.false) c.read_cell.ensures
+returns c = search (rules, whole-passed)
