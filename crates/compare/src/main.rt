@@ -4,7 +4,7 @@
 #![tactic(auto)]
 
 use cells::BLANK;
-use probes::output::{least, put, put_bytes, put_number, put_words};
+use probes::output::{put, put_bytes, put_number, put_words};
 use probes::pokes::{number16, poke, poke_parser};
 use probes::views::put_displays;
 use std::io;
@@ -47,7 +47,7 @@ fn read_full(reader: &mut impl Read, bytes: &mut [u8]) -> io::Result<bool> {
 
 // Writes what was put into the buffer, up to a place.
 fn flush(writer: &mut impl Write, out: &[u8], end: usize) -> io::Result<()> {
-    let n = least(end, out.len());
+    let n = end.min(out.len());
     writer.write_all(&out[..n])
 }
 
@@ -139,7 +139,7 @@ fn do_text(page: &[u16], space: &mut [u8], out: &mut [u8]) -> usize {
     let Ok(len) = write_text(page, space) else {
         return 0;
     };
-    let n = least(len, space.len());
+    let n = len.min(space.len());
     let name = put(out, 0, b'T');
     let count = put_number(out, name, len as u64, 2);
     put_bytes(out, count, &space[..n])
@@ -173,8 +173,8 @@ fn look<'a>(
     out: &mut [u8],
 ) -> usize {
     let state = session.state;
-    let words = least(session.words, page.len());
-    let cells = least(session.cells, line.len());
+    let words = session.words.min(page.len());
+    let cells = session.cells.min(line.len());
     let lent = &page[..words];
     let beside = &line[..cells];
     match command.letter {
@@ -196,8 +196,8 @@ fn begin(
     line: &mut [u16],
     out: &mut [u8],
 ) -> usize {
-    let words = least(command.b as usize, page.len());
-    let cells = least(session.cells, line.len());
+    let words = (command.b as usize).min(page.len());
+    let cells = session.cells.min(line.len());
     session.words = words;
     session.cells = cells;
     do_start(
@@ -218,10 +218,10 @@ fn take(
     reply: &mut [u8],
     out: &mut [u8],
 ) -> usize {
-    let words = least(session.words, page.len());
-    let cells = least(session.cells, line.len());
-    let n = least(command.a as usize, input.len());
-    let m = least(command.b as usize, reply.len());
+    let words = session.words.min(page.len());
+    let cells = session.cells.min(line.len());
+    let n = (command.a as usize).min(input.len());
+    let m = (command.b as usize).min(reply.len());
     do_feed(
         &mut session.state,
         &mut page[..words],
@@ -283,7 +283,7 @@ fn read_command(reader: &mut impl Read) -> io::Result<Option<Command>> {
 
 // What follows F.
 fn read_input(reader: &mut impl Read, command: Command, input: &mut [u8]) -> io::Result<()> {
-    let n = least(command.a as usize, input.len());
+    let n = (command.a as usize).min(input.len());
     let _ = read_full(reader, &mut input[..n])?;
     Ok(())
 }

@@ -14,27 +14,26 @@ use device::tabs::Tabs;
 fn put_flag(out: &mut [u8], at: usize, on: bool) -> usize
     ensures { PutAt out.old at (bit on ∷ []) out.new result }
 {
-    put(out, at, on as u8)
+    put(out, at, u8::from(on))
 }
 
 fn put_cursor(out: &mut [u8], at: usize, cursor: Cursor) -> usize
     ensures { PutAt out.old at (views.cursor_bytes cursor) out.new result }
 {
-    let place = [cursor.row, cursor.column, cursor.wrap as u8];
-    put_bytes(out, at, &place)
+    put_bytes(out, at, &[cursor.row, cursor.column, u8::from(cursor.wrap)])
 }
 
 fn put_modes(out: &mut [u8], at: usize, modes: Modes) -> usize
     ensures { PutAt out.old at (views.mode_bytes modes) out.new result }
 {
     let flags = [
-        modes.insert as u8,
-        modes.newline as u8,
-        modes.origin as u8,
-        modes.autowrap as u8,
-        modes.shown as u8,
-        modes.eightbit as u8,
-        modes.rectangle as u8,
+        u8::from(modes.insert),
+        u8::from(modes.newline),
+        u8::from(modes.origin),
+        u8::from(modes.autowrap),
+        u8::from(modes.shown),
+        u8::from(modes.eightbit),
+        u8::from(modes.rectangle),
     ];
     put_bytes(out, at, &flags)
 }
@@ -43,10 +42,10 @@ fn put_rendition(out: &mut [u8], at: usize, rendition: Rendition) -> usize
     ensures { PutAt out.old at (views.rendition_bytes rendition) out.new result }
 {
     let flags = [
-        rendition.bold as u8,
-        rendition.underline as u8,
-        rendition.blink as u8,
-        rendition.reverse as u8,
+        u8::from(rendition.bold),
+        u8::from(rendition.underline),
+        u8::from(rendition.blink),
+        u8::from(rendition.reverse),
     ];
     put_bytes(out, at, &flags)
 }
@@ -79,19 +78,17 @@ fn put_saved(out: &mut [u8], at: usize, saved: Saved) -> usize
 fn put_tabs(out: &mut [u8], at: usize, tabs: Tabs) -> usize
     ensures { PutAt out.old at tabs.flags out.new result }
 {
-    let flags = tabs.flags;
-    put_bytes(out, at, &flags)
+    put_bytes(out, at, &tabs.flags)
 }
 
 // R, the cursor, the margins, the modes.
 fn put_place(out: &mut [u8], at: usize, core: Core) -> usize
     ensures { PutAt out.old at (views.place_bytes core) out.new result }
 {
-    let margins = core.margins;
     let cursor = put(out, at, core.rows);
     let top = put_cursor(out, cursor, core.cursor);
-    let bottom = put(out, top, margins.top);
-    let modes = put(out, bottom, margins.bottom);
+    let bottom = put(out, top, core.margins.top);
+    let modes = put(out, bottom, core.margins.bottom);
     put_modes(out, modes, core.modes)
 }
 
@@ -119,12 +116,12 @@ fn put_line_place(out: &mut [u8], at: usize, line: StatusLine, saved: LineSaved)
     ensures { PutAt out.old at (views.line_place_bytes line saved) out.new result }
 {
     let place = [
-        line.present as u8,
-        line.active as u8,
+        u8::from(line.present),
+        u8::from(line.active),
         line.column,
-        line.wrap as u8,
+        u8::from(line.wrap),
         saved.column,
-        saved.wrap as u8,
+        u8::from(saved.wrap),
     ];
     put_bytes(out, at, &place)
 }

@@ -2,15 +2,14 @@ use Rattle.std.proofs.Common.{arith, drop_of_length-le}
 use Rattle.probes.proofs.OutputLaws.{all-remains, none-remains, bytes-less}
 use Rattle.probes.proofs.output.put_bytes.Goals as goal
 
-pub loop-i-preserved : goal.loop-i-preserved
-loop-i-preserved c =
-    (omega arith, bytes-less _ _ c.loop-i-test.true c.loop-i.invariant.1 c.put-next.ensures)
+pub loop-byte-preserved : goal.loop-byte-preserved
+loop-byte-preserved c = bytes-less c.args.from.now c.loop-byte.byte-index (omega arith) c.loop-byte.invariant c.put-next.ensures
 
-pub loop-i-init : goal.loop-i-init
-loop-i-init c = (omega arith, all-remains _ _ _)
+pub loop-byte-init : goal.loop-byte-init
+loop-byte-init c = all-remains _ _ _
 
 pub shape_of-out : goal.shape_of-out
-shape_of-out c = c.loop-i.invariant.1.long
+shape_of-out c = c.loop-byte.invariant.long
 
 pub returns : goal.returns
-returns c = none-remains (rw (drop_of_length-le _ c.loop-i-test.false) at c.loop-i.invariant.1)
+returns c = none-remains (rw (drop_of_length-le c.args.from.now {i = c.loop-byte.byte-index} (omega arith)) at c.loop-byte.invariant)

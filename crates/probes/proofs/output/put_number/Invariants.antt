@@ -1,11 +1,8 @@
 -- The loop's invariant: what is left of the number is still to be put.
-use Rattle.std.proofs.Common.{◌-◌, ◌≤◌}
+use Rattle.std.proofs.Common.{◌-◌}
 use Rattle.probes.specs.Output.{low_first}
 use Rattle.probes.proofs.OutputLaws.{Remaining}
 use Rattle.probes.proofs.output.put_number.Given as goal
 
-abbrev pub invariant-loop-k : goal.invariant-loop-k
-invariant-loop-k l = (l.k ≤ l.bytes) × Remaining l.initial.out l.at (low_first l.bytes l.n) l.out l.next (low_first (l.bytes - l.k) l.rest)
-
-abbrev pub decreases-loop-k : goal.decreases-loop-k
-decreases-loop-k l = l.bytes - l.k
+abbrev pub invariant-loop : goal.invariant-loop
+invariant-loop l = Remaining l.initial.out l.at (low_first l.bytes l.n) l.out l.next (low_first (l.bytes - l.counter) l.rest)

@@ -2,15 +2,14 @@ use Rattle.std.proofs.Common.{arith, drop_of_length-le}
 use Rattle.probes.proofs.OutputLaws.{all-remains, none-remains, words-less}
 use Rattle.probes.proofs.output.put_words.Goals as goal
 
-pub loop-i-preserved : goal.loop-i-preserved
-loop-i-preserved c =
-    (omega arith, words-less _ _ c.loop-i-test.true c.loop-i.invariant.1 (rw c.wide.ensures at c.put_number-next.ensures))
+pub loop-word-preserved : goal.loop-word-preserved
+loop-word-preserved c = words-less c.args.from.now c.loop-word.word-index (omega arith) c.loop-word.invariant (rw c.from.ensures at c.put_number-next.ensures)
 
-pub loop-i-init : goal.loop-i-init
-loop-i-init c = (omega arith, all-remains _ _ _)
+pub loop-word-init : goal.loop-word-init
+loop-word-init c = all-remains _ _ _
 
 pub shape_of-out : goal.shape_of-out
-shape_of-out c = c.loop-i.invariant.1.long
+shape_of-out c = c.loop-word.invariant.long
 
 pub returns : goal.returns
-returns c = none-remains (rw (drop_of_length-le _ c.loop-i-test.false) at c.loop-i.invariant.1)
+returns c = none-remains (rw (drop_of_length-le c.args.from.now {i = c.loop-word.word-index} (omega arith)) at c.loop-word.invariant)
