@@ -31,7 +31,8 @@ pub fn paste_words<F: Fn(usize, u16) -> u16>(
     changed
 }
 
-// Copies `len` words from `from` to `to`, the first word first.
+// Copies `len` words from `from` to `to`, the first word first. (A loop of its own, as the next: the closure of
+// `paste_words` may not read the page that is written.)
 fn copy_upward(page: &mut [u16], to: usize, from: usize, len: usize) -> bool
     requires { (from + len ≤ length page.old) × (to + len ≤ length page.old) × ((to ≤ from) ⊎ (from + len ≤ to)) }
     ensures { Pasted page.old page.new to (drop from page.old) len result }
