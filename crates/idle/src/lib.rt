@@ -4,7 +4,6 @@
 ghost use Rattle.std.specs.Prelude.{◌≡◌, true, false, ◌&&◌, ◌≤◌, eqb, ltb, length, get_or};
 ghost use Rattle.idle.specs.Idle.{gathers, opens, is_text, begun, Separated, Skipped, AfterCsi};
 ghost use Rattle.parser.specs.Phases.{takes_parameters, is_string};
-ghost use Rattle.parser.specs.Parser.{with_params};
 
 use ground::numbers::{back, pick};
 use ground::tests::between;
@@ -14,7 +13,8 @@ use parser::parser::Parser;
 use parser::phases::{Phase, is_string, takes_parameters};
 use parser::rules::opens_string;
 
-// The parser after such bytes, and the place of the next byte.
+// The parser after such bytes, and the place of the next byte. A place counts from the start of the input, and no function takes
+// the rest as a slice: what was read is joined from span to span of one input (`Skipped`), and would be shifted each time.
 #[derive(Clone, Copy)]
 pub struct Idle {
     pub parser: Parser,
@@ -77,37 +77,28 @@ fn separate(values: &mut [u16; 16], separators: u8, byte: u8) -> u8
     }
 }
 
-// The parser with what was gathered.
-fn finished(parser: Parser, fresh: bool, phase: Phase, mark: u8, params: Params) -> Parser
-    ensures { result ≡ with_params phase (begun fresh parser) mark params }
+// The parser right after CSI, or as it was.
+fn begun(fresh: bool, parser: Parser) -> Parser
+    ensures { result ≡ begun fresh parser }
 {
-    Parser {
-        phase,
-        mark,
-        first: pick(fresh, 0, parser.first),
-        second: pick(fresh, 0, parser.second),
-        params,
+    if fresh {
+        Parser::cleared(Phase::CsiEntry)
+    } else {
+        parser
     }
 }
 
-// The mark and the parameters of a control sequence, which is `fresh` right after CSI: `Params::take` of each byte,
-// without a copy of the array each time.
-fn gather(parser: Parser, fresh: bool, input: &[u8], from: usize) -> Idle
-    requires { (from ≤ length input.now) × (takes_parameters (begun fresh parser).phase ≡ true) }
-    ensures { Skipped (begun fresh parser) input.now from result }
+// The mark and the parameters of a control sequence: `Params::take` of each byte, without a copy of the array each time.
+fn gather(parser: Parser, input: &[u8], from: usize) -> Idle
+    requires { (from ≤ length input.now) × (takes_parameters parser.phase ≡ true) }
+    ensures { Skipped parser input.now from result }
 {
-    let old = parser.params;
-    let mut separators: u8 = 0;
-    let mut values = [0u16; 16];
-    let mut mark: u8 = 0;
-    let mut phase = Phase::CsiEntry;
-    if !fresh {
-        separators = old.separators;
-        values = old.values;
-        mark = parser.mark;
-        phase = parser.phase;
-    }
+    let mut separators = parser.params.separators;
+    let mut values = parser.params.values;
+    let mut mark = parser.mark;
+    let mut phase = parser.phase;
     let mut i = from;
+    // The test reads the phase, which the first byte changes: a `for` would need the same test, with a `break`.
     while gathers_at(phase, input, i) {
         let byte = input[i];
         let at = separators as usize;
@@ -127,8 +118,10 @@ fn gather(parser: Parser, fresh: bool, input: &[u8], from: usize) -> Idle
         }
     }
     let params = Params { separators, values };
-    let parser = finished(parser, fresh, phase, mark, params);
-    Idle { parser, next: i }
+    Idle {
+        parser: parser.with_params(phase, mark, params),
+        next: i,
+    }
 }
 
 // ---- strings
@@ -197,7 +190,7 @@ pub fn skip_idle(parser: Parser, input: &[u8], from: usize) -> Idle
     let next = after_csi(input, from);
     let fresh = from < next;
     if fresh | (takes_parameters(parser.phase) & !byte_is(input, from, 0x1B)) {
-        return gather(parser, fresh, input, next);
+        return gather(begun(fresh, parser), input, next);
     }
     if byte_is(input, from, 0x1B) {
         return skip_string(Parser::cleared(Phase::Escape), input, from + 1);

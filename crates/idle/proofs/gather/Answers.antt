@@ -13,21 +13,14 @@ use Rattle.parser.specs.declared.phases.Phase.TheVariants.{CsiParam}
 use Rattle.parser.specs.declared.params.Params.{Params}
 use Rattle.parser.specs.Params.{with_digit, joins, with_joined, with_next}
 use Rattle.parser.specs.Parser.{mark_after, gathered}
-use Rattle.idle.specs.Idle.{gathers, begun, Separated, Skipped}
+use Rattle.idle.specs.Idle.{gathers, Separated, Skipped}
 use Rattle.idle.proofs.IdleLaws.{there, skipped-none, skipped-parameter, skipped-mark}
 use Rattle.idle.proofs.gather.Goals as goal
-use Rattle.idle.proofs.gather.Goals.{In-loop-phase, Joined-byte-at, then-not-fresh, else-not-fresh, then-byte-at, else-byte-at}
+use Rattle.idle.proofs.gather.Goals.{In-loop-phase, Joined-byte-at, then-byte-at, else-byte-at}
 use Rattle.idle.proofs.gather.Invariants.{so_far}
 
 pub loop-phase-init : goal.loop-phase-init
-loop-phase-init c =
-    let pre = c.requires in
-    elim c.if-not-fresh.branch [
-      | then-not-fresh w ↦ let old = w.if-not-fresh.true in
-          rw (w.separators-is, w.values-is, w.mark-is, w.phase-is, old) (search rules, search rules, rw old at pre.1, skipped-none _ _ _ pre.0)
-      | else-not-fresh w ↦ let new = w.if-not-fresh.false in
-          rw (w.separators-is, w.values-is, w.mark-is, w.phase-is, new) (omega arith, refl, refl, skipped-none _ _ _ pre.0)
-    ]
+loop-phase-init c = (search rules, search rules, c.requires.1, skipped-none _ _ _ c.requires.0)
 
 -- the byte that was tested is there
 here : (c : In-loop-phase) → c.loop-phase.i < length c.args.input.now
@@ -42,9 +35,9 @@ more : (c : In-loop-phase)
     let a = c.args in
     let byte = get_or a.input.now now.i 0 in
     byte < 0x3C
-    → Skipped (begun a.fresh a.parser) a.input.now a.from
+    → Skipped a.parser a.input.now a.from
     (record {
-      parser = gathered CsiParam (so_far (begun a.fresh a.parser) now.phase now.mark now.separators now.values) byte;
+      parser = gathered CsiParam (so_far a.parser now.phase now.mark now.separators now.values) byte;
       next = now.i + 1;
     })
 more c h =
@@ -72,7 +65,7 @@ mark-is : (c : Joined-byte-at)
     → let now = c.loop-phase in
     let a = c.args in
     c.if-byte-at.mark
-    ≡ mark_after (so_far (begun a.fresh a.parser) now.phase now.mark now.separators now.values) (get_or a.input.now now.i 0)
+    ≡ mark_after (so_far a.parser now.phase now.mark now.separators now.values) (get_or a.input.now now.i 0)
 mark-is c =
     elim c.if-byte-at.branch [
       | then-byte-at w ↦ rw (w.if-byte-at.true, w.mark-is) w.joined_mark-mark.ensures
@@ -130,4 +123,4 @@ loop-phase-preserved c =
 
 pub returns : goal.returns
 unfolding with_digit with_next
-returns c = rw c.finished-parser.ensures c.loop-phase.invariant.3
+returns c = rw c.with_params.ensures c.loop-phase.invariant.3

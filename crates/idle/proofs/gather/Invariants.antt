@@ -7,7 +7,7 @@ use mathlib.Core.List.{List}
 use Rattle.parser.specs.declared.phases.Phase.{Phase}
 use Rattle.parser.specs.declared.parser.Parser.{Parser}
 use Rattle.parser.specs.Parser.{with_params}
-use Rattle.idle.specs.Idle.{begun, Skipped}
+use Rattle.idle.specs.Idle.{Skipped}
 use Rattle.parser.specs.Phases.{takes_parameters}
 use Rattle.idle.proofs.gather.Given as goal
 
@@ -18,7 +18,7 @@ so_far s p m n vs = with_params p s m (record { separators = n; values = vs })
 abbrev pub invariant-loop-phase : goal.invariant-loop-phase
 invariant-loop-phase l =
     (l.separators < 256) × (length l.values ≡ 16) × (takes_parameters l.phase ≡ true)
-    × Skipped (begun l.fresh l.parser) l.input l.from (record { parser = so_far (begun l.fresh l.parser) l.phase l.mark l.separators l.values; next = l.i })
+    × Skipped l.parser l.input l.from (record { parser = so_far l.parser l.phase l.mark l.separators l.values; next = l.i })
 
 abbrev pub decreases-loop-phase : goal.decreases-loop-phase
 decreases-loop-phase l = length l.input - l.i

@@ -33,11 +33,11 @@ gather-requires c =
     let a = c.args in
     let s = a.parser in
     let fresh = ltb a.from c.after_csi-next.result in
-    ((c.after_csi-next.ensures s).end, takes fresh (not c.byte_is.result) s (rw c.takes_parameters.ensures at c.if-fresh-takes_parameters.true))
+    ((c.after_csi-next.ensures s).end, rw c.begun.ensures (takes fresh (not c.byte_is.result) s (rw c.takes_parameters.ensures at c.if-fresh-takes_parameters.true)))
 
 pub returns-then-fresh-takes_parameters : goal.returns-then-fresh-takes_parameters
 unfolding AfterCsi
-returns-then-fresh-takes_parameters c = skipped-on (c.after_csi-next.ensures c.args.parser) c.gather.ensures
+returns-then-fresh-takes_parameters c = skipped-on (c.after_csi-next.ensures c.args.parser) (rw c.begun.ensures at c.gather.ensures)
 
 pub skip_string-requires : goal.skip_string-requires
 unfolding AfterCsi
