@@ -49,7 +49,7 @@ pub fn takes(terminal: Terminal, input: &[u8]) -> bool
     all_ascii(input)
 }
 
-// ---- put
+// ---- put; that the record is plain is asked of it as it lies: a type that holds the fact would be made of it, and taken apart, in each call
 
 // A word without its code.
 fn base(terminal: Terminal) -> u16
@@ -86,8 +86,9 @@ pub fn moved(mut terminal: Terminal, count: usize, changed: bool) -> Terminal
     requires { (plain terminal ≡ true) × (terminal.cursor.column + count ≤ 80) }
     ensures { result ≡ moved_by terminal count changed }
 {
+    let unused = [0u8; 5];
     terminal.changed |= row_bit(terminal.cursor.row - 1, changed);
     terminal.cursor.column += count as u8;
-    terminal.unused = [0u8; 5];
+    terminal.unused = unused;
     terminal
 }

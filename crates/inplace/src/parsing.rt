@@ -51,11 +51,12 @@ pub fn steered(mut terminal: Terminal, input: &[u8]) -> Terminal
     requires { (plain terminal ≡ true) × (steers_in_place terminal input.now ≡ true) }
     ensures { (p : List ℕ) → length p ≡ 80 * terminal.rows → FedInPlace terminal p input.now result p }
 {
+    let unused = [0u8; 5];
     let values = terminal.values;
     let parser = next_parser(parser_of(terminal.parser, values), input[0]);
     let values = parser.params.values;
     terminal.parser = ParserRecord::from(parser);
     terminal.values = values;
-    terminal.unused = [0u8; 5];
+    terminal.unused = unused;
     terminal
 }

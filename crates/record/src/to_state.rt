@@ -1,4 +1,4 @@
-// The state that a record holds.
+// The state that a record holds. A flag is on at 1, and off at any other number; a record with such a number is refused.
 ghost use Rattle.std.specs.Prelude.{◌≡◌};
 ghost use Rattle.record.specs.Record as records;
 
@@ -88,6 +88,7 @@ impl From<SavedRecord> for Saved {
     }
 }
 
+// Of two values, the record and the parameters' values, so it is no `From`.
 pub fn parser_of(parser: ParserRecord, values: [u16; 16]) -> Parser
     ensures { result ≡ records.parser_of parser values }
 {
