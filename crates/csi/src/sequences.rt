@@ -31,14 +31,13 @@ fn plain_sequence(core: Core, params: Params, last: u8) -> Decision
         0x42 => cursor_down(core, params.n()), // CUD
         0x43 => cursor_right(core, params.n()), // CUF
         0x44 => cursor_left(core, params.n()), // CUB
-        0x48 => cursor_position(core, params.get(0), params.get(1)), // CUP
         0x4A => erase_in_display(core, params.get(0)), // ED
         0x4B => erase_in_line(core, params.get(0)), // EL
         0x4C => insert_lines(core, params.n()), // IL
         0x4D => delete_lines(core, params.n()), // DL
         0x50 => delete_characters(core, params.n()), // DCH
         0x58 => erase_characters(core, params.n()), // ECH
-        0x66 => cursor_position(core, params.get(0), params.get(1)), // HVP
+        0x48 | 0x66 => cursor_position(core, params.get(0), params.get(1)), // CUP, HVP
         0x67 => clear_tabs(core, params), // TBC
         0x68 => set_ansi_modes(core, params, true), // SM
         0x6C => set_ansi_modes(core, params, false), // RM
@@ -62,6 +61,7 @@ fn private_sequence(core: Core, params: Params, last: u8) -> Decision
     }
 }
 
+#[tactic(auto, unfolding(crate::specs::Sequences::sequenced))]
 pub fn sequence(core: Core, params: Params, function: Function) -> Decision
     requires { Bounds core × (is_plain function.mark function.first function.second ≡ true → function.last ≡ 0x72 → sequences.margins_taken core params ≡ true) }
     ensures { result ≡ sequences.sequenced core params function.mark function.first function.second function.last }
