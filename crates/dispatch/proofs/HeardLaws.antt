@@ -1,9 +1,7 @@
 -- What is not listed has no function and draws no reply, so the code asks only what is ignored here and now.
 use Rattle.std.proofs.Common.{◌≡◌, ℕ, Bool, true, false, cond, not, ◌&&◌, ◌||◌, eqb, None, Some, List, sym, refl, ap, ◌∙◌, ne_eqb}
 use mathlib.Core.Bool.{false≢true, and-true, and-false}
-use borrow.Author.Tests.{not-false}
 use Rattle.parser.specs.declared.params.Params.{Params}
-use Rattle.parser.specs.declared.families.Function.{Function}
 use Rattle.parser.specs.declared.parser.Action.{Action}
 use Rattle.parser.specs.declared.parser.Action.TheVariants.{Nothing, Character, Substitute, Control, C1Control, EscapeSequence, ControlSequence}
 use Rattle.device.specs.declared.sending.Reply.TheVariants.{SecondaryAttributes}
@@ -16,12 +14,12 @@ use Rattle.parser.specs.Families.{is_plain, is_private, is_protection, is_soft_r
 use Rattle.page.specs.declared.Edit.{Edit}
 use Rattle.rectangles.specs.Areas.{area_at, is_taken}
 use Rattle.rectangles.specs.Functions.{rectangle_edit, select_extent}
-use Rattle.csi.specs.Sequences.{margins_taken, select_protection, soft_reset, plain_sequence, private_sequence, sequenced}
+use Rattle.csi.specs.Sequences.{select_protection, soft_reset, plain_sequence, private_sequence, sequenced}
 use Rattle.ground.proofs.TestLaws.{or_left, or_right, either, at-number}
 use Rattle.dispatch.specs.Heard.{controls, c1_controls, plain_escapes, names94, listed_escape, plain_finals, private_finals}
 use Rattle.dispatch.specs.Heard.{dollar_finals, is_secondary, listed_rest, listed_sequence}
-use Rattle.dispatch.specs.Heard.{is_listed, plain_ignored, private_ignored, ignored_sequence, is_ignored, unless_ignored, is_heard, heard}
-use Rattle.dispatch.specs.WrapDue.{clears_wrap}
+use Rattle.dispatch.specs.Heard.{is_listed, plain_ignored, private_ignored, is_ignored, unless_ignored, is_heard, heard}
+use Rattle.dispatch.specs.WrapDue.{clears_wrap, with_wrap_policy}
 use Rattle.dispatch.specs.Replies.{plain_reply, private_reply, reply, reply_to}
 use Rattle.dispatch.specs.Decide.{effect, executed}
 
@@ -133,12 +131,12 @@ pub executed-unignored : (c : Core) (a : Action) → executed c (unless_ignored 
 unfolding executed clears_wrap
 executed-unignored c a = either (λ (x : Action). executed c x ≡ executed c a) (is_ignored c a) (λ e. ignored-unedited c a e) (λ e. refl)
 
--- r that is not ignored has margins that are taken
-pub heard-taken : (c : Core) (a : Action) (f : Function) → is_ignored c a ≡ false → a ≡ ControlSequence f
-    → is_plain f.mark f.first f.second ≡ true → f.last ≡ 0x72 → margins_taken c c.parser.params ≡ true
-heard-taken c a f h s p e =
-    let i : ignored_sequence c c.parser.params f.mark f.first f.second f.last ≡ false = rw s at h in
-    not-false (margins_taken c c.parser.params) (rw (p, e) at i)
+pub executed_settled : (c : Core) (a : Action)
+    → executed c a ≡ with_wrap_policy (clears_wrap c (unless_ignored c a)) (effect c (unless_ignored c a))
+unfolding executed
+executed_settled c a =
+    let left = unless_ignored c a in
+    sym (executed-unignored c a) ∙ ap (with_wrap_policy (clears_wrap c left)) (sym (heard-effect c left (unignored c a)))
 
 -- ---- what is not heard draws no reply
 

@@ -1,7 +1,7 @@
 -- Bytes that move the cursor and make one edit at most: what is decoded of them, that they draw no reply and tell nothing,
 -- and that cursor and edit are all that they change.
 use Rattle.std.proofs.Common.{◌≡◌, ℕ, ◌<◌, ◌≤◌, Bool, true, false, cond, not, ◌||◌, eqb, ltb, sym, refl, ap, ◌∙◌, arith, ltb-true, le-ltb, lt-ltb, ne_eqb, eqb-true}
-use mathlib.Core.Bool.{false≢true, and-true}
+use mathlib.Core.Bool.{false≢true}
 use borrow.Author.Tests.{eqb-false, lt-leb, not-true}
 use Rattle.ground.specs.Tests.{between}
 use Rattle.ground.specs.Folds.{folded}
@@ -12,7 +12,6 @@ use Rattle.parser.specs.declared.phases.Op.TheVariants.{Execute, C1}
 use Rattle.parser.specs.declared.parser.Parser.{Parser}
 use Rattle.parser.specs.declared.parser.Decoded.{Decoded}
 use Rattle.parser.specs.declared.parser.Action.{Action}
-use Rattle.parser.specs.declared.parser.Action.TheVariants.{Control, C1Control}
 use Rattle.parser.specs.Params.{param, param_list, numbers, member}
 use Rattle.parser.specs.Phases.{takes_parameters}
 use Rattle.parser.specs.Parser.{to, transition, in_phase, control_sequence, sequence_action, decode}
@@ -21,18 +20,12 @@ use Rattle.core_state.specs.declared.Core.{Core}
 use Rattle.core_state.specs.Effects.{with_cursor, with_rendition, with_parser, one_edit, unedited}
 use Rattle.vt.specs.Controls.{next_lined, indexed, line_fed, controlled}
 use Rattle.csi.specs.Sequences.{rendered, sequenced}
-use Rattle.dispatch.specs.Heard.{is_listed, is_ignored}
+use Rattle.dispatch.specs.Heard.{is_ignored}
 use Rattle.dispatch.specs.WrapDue.{clears_wrap, with_wrap_policy}
-use Rattle.dispatch.specs.Decide.{executed, decided}
+use Rattle.dispatch.specs.Decide.{executed}
 use Rattle.dispatch.specs.Events.{is_notable, is_eventful}
 use Rattle.dispatch.specs.Touches.{narrowed, is_touch, touch_ignored, touch_decided, other_controls, is_direct, control_action}
 use Rattle.dispatch.proofs.HeardLaws.{other, ignored-unedited}
-
--- what is decoded is executed
-pub executed-decided : (c : Core) (b : ℕ) (s : Parser) (a : Action) → decode c.parser b ≡ record { parser = s; action = a }
-    → executed (with_parser c s) a ≡ decided c b
-unfolding decided
-executed-decided c b s a e = rw e
 
 -- ---- control sequences
 
@@ -114,29 +107,6 @@ direct_is b h = record {
   apart = other other_controls b (not-true (member b other_controls) (and_right (ltb b 0x20 || between 0x80 b 0x9F) (not (member b other_controls)) h));
 }
 
--- a byte that is none of the others
-pub direct-rest : (b : ℕ) → (b ≡ 0x0E → ⊥) → (b ≡ 0x0F → ⊥) → (b ≡ 0x18 → ⊥) → (b ≡ 0x1A → ⊥) → (b ≡ 0x1B → ⊥) → (b ≡ 0x88 → ⊥) → (b ≡ 0x8E → ⊥)
-    → (b ≡ 0x8F → ⊥) → (b ≡ 0x90 → ⊥) → (b ≡ 0x98 → ⊥) → (b ≡ 0x9A → ⊥) → (b ≡ 0x9B → ⊥) → (b ≡ 0x9D → ⊥) → (b ≡ 0x9E → ⊥) → (b ≡ 0x9F → ⊥)
-    → (ltb b 0x20 || between 0x80 b 0x9F) ≡ is_direct b
-direct-rest b so si can sub esc hts ss2 ss3 dcs sos decid csi osc pm apc =
-    rw (
-      ne_eqb b 0x0E so,
-      ne_eqb b 0x0F si,
-      ne_eqb b 0x18 can,
-      ne_eqb b 0x1A sub,
-      ne_eqb b 0x1B esc,
-      ne_eqb b 0x88 hts,
-      ne_eqb b 0x8E ss2,
-      ne_eqb b 0x8F ss3,
-      ne_eqb b 0x90 dcs,
-      ne_eqb b 0x98 sos,
-      ne_eqb b 0x9A decid,
-      ne_eqb b 0x9B csi,
-      ne_eqb b 0x9D osc,
-      ne_eqb b 0x9E pm,
-      ne_eqb b 0x9F apc,
-    ) (sym (and-true (ltb b 0x20 || between 0x80 b 0x9F)))
-
 -- 80 to 9F act alike in every phase
 high-rule : (p : Phase) (b : ℕ) → is_direct b ≡ true → 0x80 ≤ b → b ≤ 0x9F → transition p b ≡ to Ground C1
 unfolding transition
@@ -194,19 +164,3 @@ line-touch c b l u =
   where
     P : ℕ → Type 0
     P x = (let t = narrowed (line_fed c) in one_edit (with_cursor c t.cursor) t.edit) ≡ executed c (control_action x)
-
--- what is not listed does nothing
-unlisted-executes : (c : Core) (a : Action) → is_listed a ≡ false → unedited c ≡ executed c a
-unfolding executed clears_wrap
-unlisted-executes c a e = rw e
-
--- so do the others: of what is listed they leave none
-pub other-touch : (c : Core) (b : ℕ) → is_direct b ≡ true → (b ≡ 0x08 → ⊥) → (b ≡ 0x09 → ⊥) → (b ≡ 0x0A → ⊥) → (b ≡ 0x0B → ⊥) → (b ≡ 0x0C → ⊥) → (b ≡ 0x0D → ⊥)
-    → (b ≡ 0x84 → ⊥) → (b ≡ 0x85 → ⊥) → (b ≡ 0x8D → ⊥) → unedited c ≡ executed c (control_action b)
-other-touch c b h bs ht lf vt ff cr ind nel ri =
-    let a = (direct_is b h).apart in
-    either (λ (x : Action). unedited c ≡ executed c x) (ltb b 0x80)
-    (λ _. unlisted-executes c (Control b)
-    (rw (ne_eqb b 0x08 bs, ne_eqb b 0x09 ht, ne_eqb b 0x0A lf, ne_eqb b 0x0B vt, ne_eqb b 0x0C ff, ne_eqb b 0x0D cr, a 0x0E refl, a 0x0F refl)))
-    (λ _. unlisted-executes c (C1Control b)
-    (rw (ne_eqb b 0x84 ind, ne_eqb b 0x85 nel, a 0x88 refl, ne_eqb b 0x8D ri, a 0x8E refl, a 0x8F refl, a 0x9A refl)))

@@ -35,6 +35,7 @@ fn effect(core: Core, action: Action) -> Decision
 }
 
 // What an action does, if it is heard.
+#[tactic(auto, using(crate::proofs::HeardLaws::executed_settled))]
 pub fn execute(core: Core, action: Action) -> Decision
     requires { Bounds core }
     ensures { result ≡ decisions.executed core action }

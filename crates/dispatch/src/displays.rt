@@ -13,10 +13,8 @@ fn select_type(mut line: StatusLine, selector: u16) -> StatusLine
     ensures { result ≡ displays.type_selected selector line }
 {
     if selector <= 2 {
-        let there = selector != 0;
-        line.present = there;
-        line.active = there & line.active;
-        return line;
+        line.present = selector != 0;
+        line.active &= line.present;
     }
     line
 }
@@ -27,7 +25,6 @@ fn select_display(mut line: StatusLine, selector: u16) -> StatusLine
 {
     if (selector == 0) | ((selector == 1) & line.present) {
         line.active = selector == 1;
-        return line;
     }
     line
 }
@@ -35,13 +32,11 @@ fn select_display(mut line: StatusLine, selector: u16) -> StatusLine
 fn select_status(line: StatusLine, last: u8, selector: u16) -> StatusLine
     ensures { result ≡ displays.status_selected last selector line }
 {
-    if last == 0x7E {
-        return select_type(line, selector);
+    match last {
+        0x7E => select_type(line, selector),
+        0x7D => select_display(line, selector),
+        _ => line,
     }
-    if last == 0x7D {
-        return select_display(line, selector);
-    }
-    line
 }
 
 // DECSTR: back to the page, and what is saved is renewed.
@@ -49,9 +44,7 @@ fn renew_line(mut line: StatusLine) -> StatusLine
     ensures { result ≡ displays.line_renewed line }
 {
     line.active = false;
-    let fresh = fresh_line();
-    let saved = fresh.saved;
-    line.saved = saved;
+    line.saved = fresh_line().saved;
     line
 }
 
@@ -98,10 +91,7 @@ pub fn tell_line(line: StatusLine, action: Action, selector: u16) -> StatusLine
 pub fn resets_all(action: Action) -> bool
     ensures { result ≡ displays.resets_all action }
 {
-    match action {
-        Action::EscapeSequence { first, last, .. } => is_full_reset(first, last),
-        _ => false,
-    }
+    matches!(action, Action::EscapeSequence { first, last, .. } if is_full_reset(first, last))
 }
 
 // RIS, DECSTR: they go back to the page.
@@ -118,8 +108,7 @@ pub fn leaves_line(action: Action) -> bool
 fn tells_by_sequence(function: Function) -> bool
     ensures { result ≡ displays.tells_line (ControlSequence function) }
 {
-    function.is_soft_reset()
-        | (function.is_dollar() & ((function.last == 0x7D) | (function.last == 0x7E)))
+    function.is_soft_reset() | (function.is_dollar() & matches!(function.last, 0x7D | 0x7E))
 }
 
 // Whether the line is told anything.

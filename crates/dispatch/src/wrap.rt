@@ -14,31 +14,22 @@ use parser::parser::Action;
 fn control_clears(byte: u8) -> bool
     ensures { result ≡ member byte hearing.controls && not (member byte wrap.keeping_controls) }
 {
-    match byte {
-        0x08 => true, // BS
-        0x09 => true, // HT
-        0x0A => true, // LF
-        0x0B => true, // VT
-        0x0C => true, // FF
-        0x0D => true, // CR
-        0x0E => false, // SO
-        0x0F => false, // SI
-        _ => false,
-    }
+    // BS, HT, LF, VT, FF, CR
+    matches!(byte, 0x08..=0x0D)
 }
 
 // IND, NEL, RI.
 fn c1_clears(byte: u8) -> bool
     ensures { result ≡ member byte hearing.c1_controls && not (member byte wrap.keeping_c1) }
 {
-    ((byte == 0x84) | (byte == 0x85)) | (byte == 0x8D)
+    matches!(byte, 0x84 | 0x85 | 0x8D)
 }
 
 // DECALN, RIS.
 fn escape_clears(first: u8, second: u8, last: u8) -> bool
     ensures { result ≡ hearing.listed_escape first second last && not (wrap.escape_keeps first last) }
 {
-    ((first == 0x23) & ((second == 0) & (last == 0x38))) | ((first == 0) & (last == 0x63))
+    matches!((first, second, last), (0x23, 0, 0x38) | (0, _, 0x63))
 }
 
 // What moves the cursor or cells, and DECSTBM.
@@ -60,14 +51,14 @@ fn private_clears(core: Core, params: Params, last: u8) -> bool
     ensures { result ≡ member last hearing.private_finals && not (wrap.private_keeps core params last) }
 {
     match last {
-        0x4A => true, // DECSED
-        0x4B => true, // DECSEL
+        0x4A | 0x4B => true, // DECSED, DECSEL
         0x68 => sets_origin(core, params), // SM
         0x6C => sets_origin(core, params) | params.has(7), // RM
         _ => false,
     }
 }
 
+#[tactic(auto, using(crate::proofs::WrapLaws::others_clear))]
 fn sequence_clears(core: Core, params: Params, function: Function) -> bool
     ensures { result ≡ hearing.listed_sequence function.mark function.first function.second function.last
         && not (wrap.sequence_keeps core params function.mark function.first function.second function.last) }
@@ -81,6 +72,7 @@ fn sequence_clears(core: Core, params: Params, function: Function) -> bool
     function.is_soft_reset()
 }
 
+#[tactic(auto, using(crate::proofs::WrapLaws::clears_listed))]
 pub fn clears_wrap(core: Core, action: Action) -> bool
     requires { hearing.is_ignored core action ≡ false }
     ensures { result ≡ wrap.clears_wrap core action }
@@ -104,7 +96,6 @@ pub fn apply_wrap_policy(clears: bool, mut decision: Decision) -> Decision
 {
     if clears {
         decision.core.cursor.wrap = false;
-        return decision;
     }
     decision
 }
