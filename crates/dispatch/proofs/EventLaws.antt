@@ -1,9 +1,9 @@
 -- What does not interrupt is no event: it draws no reply, and tells the status line nothing.
-use Rattle.std.proofs.Common.{◌≡◌, ℕ, ◌+◌, ◌-◌, ◌<◌, ◌≤◌, Bool, true, false, not, ◌&&◌, ◌||◌, eqb, ltb, leb, Option, None, [], sym, refl, ap, ◌∙◌, arith, ne_eqb, eqb-true, leb-true}
+use Rattle.std.proofs.Common.{◌≡◌, ℕ, ◌+◌, Bool, true, false, not, ◌&&◌, ◌||◌, eqb, ltb, Option, None, [], sym, refl, ap, ◌∙◌, arith, ne_eqb}
 use mathlib.Core.Bool.{and-false}
 use borrow.Author.Tests.{eqb-false}
 use Rattle.ground.specs.Tests.{between}
-use Rattle.ground.proofs.TestLaws.{or_cases, or_left, or_right, either}
+use Rattle.ground.proofs.TestLaws.{or_left, or_right, either}
 use Rattle.parser.specs.declared.phases.Phase.{Phase}
 use Rattle.parser.specs.declared.phases.Phase.TheVariants.{Ground}
 use Rattle.parser.specs.declared.phases.Op.{Op}
@@ -50,42 +50,6 @@ unnotable x h = record {
   brace = or_left (eqb x 0x7D) _ (or_right (eqb x 0x70) _ (or_right (eqb x 0x6E) _ (or_right (eqb x 0x63) _ (or_right (eqb x 0x5A) _ h))));
   tilde = or_right (eqb x 0x7D) _ (or_right (eqb x 0x70) _ (or_right (eqb x 0x6E) _ (or_right (eqb x 0x63) _ (or_right (eqb x 0x5A) _ h))));
 }
-
--- all of them end a sequence
-pub notable-final : (x : ℕ) → is_notable x ≡ true → (0x40 ≤ x) × (x < 0x7F)
-notable-final x h =
-    or_cases (eqb x 0x5A) _ h (at 0x5A (omega arith, omega arith))
-    (λ h1. or_cases (eqb x 0x63) _ h1 (at 0x63 (omega arith, omega arith))
-    (λ h2. or_cases (eqb x 0x6E) _ h2 (at 0x6E (omega arith, omega arith))
-    (λ h3. or_cases (eqb x 0x70) _ h3 (at 0x70 (omega arith, omega arith))
-    (λ h4. or_cases (eqb x 0x7D) _ h4 (at 0x7D (omega arith, omega arith)) (at 0x7E (omega arith, omega arith))))))
-  where
-    at : (k : ℕ) → (0x40 ≤ k) × (k < 0x7F) → eqb x k ≡ true → (0x40 ≤ x) × (x < 0x7F)
-    at k b e = rw (eqb-true x k e) b
-
-lowered-apart : (b k : ℕ) → 0x80 ≤ b → (b ≡ k + 0x80 → ⊥) → eqb (b - 0x80) k ≡ false
-lowered-apart b k l h = ne_eqb (b - 0x80) k (λ e. h (omega arith))
-
--- a byte that is none of them, nor 80 higher
-unlisted : (b : ℕ) → (b ≡ 0x5A → ⊥) → (b ≡ 0x63 → ⊥) → (b ≡ 0x6E → ⊥) → (b ≡ 0x70 → ⊥) → (b ≡ 0x7D → ⊥) → (b ≡ 0x7E → ⊥)
-    → (b ≡ 0xDA → ⊥) → (b ≡ 0xE3 → ⊥) → (b ≡ 0xEE → ⊥) → (b ≡ 0xF0 → ⊥) → (b ≡ 0xFD → ⊥) → (b ≡ 0xFE → ⊥) → is_notable (lowered b) ≡ false
-unlisted b z c n p brace tilde z' c' n' p' brace' tilde' =
-    either (λ (x : ℕ). is_notable x ≡ false) (leb 0x80 b)
-    (λ e. let high : 0x80 ≤ b = leb-true 0x80 b e in
-    rw (
-      lowered-apart b 0x5A high z',
-      lowered-apart b 0x63 high c',
-      lowered-apart b 0x6E high n',
-      lowered-apart b 0x70 high p',
-      lowered-apart b 0x7D high brace',
-      lowered-apart b 0x7E high tilde',
-    ))
-    (λ e. rw (ne_eqb b 0x5A z, ne_eqb b 0x63 c, ne_eqb b 0x6E n, ne_eqb b 0x70 p, ne_eqb b 0x7D brace, ne_eqb b 0x7E tilde))
-
-pub goes_on : (p : Phase) (b : ℕ) → (b ≡ 0x9A → ⊥) → (b ≡ 0x5A → ⊥) → (b ≡ 0x63 → ⊥) → (b ≡ 0x6E → ⊥) → (b ≡ 0x70 → ⊥) → (b ≡ 0x7D → ⊥) → (b ≡ 0x7E → ⊥)
-    → (b ≡ 0xDA → ⊥) → (b ≡ 0xE3 → ⊥) → (b ≡ 0xEE → ⊥) → (b ≡ 0xF0 → ⊥) → (b ≡ 0xFD → ⊥) → (b ≡ 0xFE → ⊥) → false ≡ interrupts p b
-goes_on p b decid z c n f brace tilde z' c' n' f' brace' tilde' =
-    rw (ne_eqb b 0x9A decid, unlisted b z c n f brace tilde z' c' n' f' brace' tilde')
 
 -- ---- an action that interrupts nothing is no event
 
@@ -137,11 +101,6 @@ uninterrupted s b e =
     go h n true g =
         ap (λ (p : Phase). is_eventful (action_of s (transition p b).op b)) (phase-same s.phase Ground g) ∙ ground-quiet s b h
     go h n false g = sequence-quiet s (transition s.phase b).op b h (left_false (is_notable (lowered b)) (rw g at n))
-
--- DECID as one byte
-pub decid-action : (s : Parser) (b : ℕ) → b ≡ 0x9A → C1Control b ≡ (decode s b).action
-unfolding decode transition
-decid-action s b e = rw e
 
 -- ---- and no event draws no reply and tells nothing
 

@@ -11,24 +11,15 @@ pub fn interrupts(phase: Phase, byte: u8) -> bool
     ensures { result ≡ events.interrupts phase byte }
 {
     match byte {
-        0x5A => !is_ground(phase),
-        0x63 => !is_ground(phase),
-        0x6E => !is_ground(phase),
-        0x70 => !is_ground(phase),
-        0x7D => !is_ground(phase),
-        0x7E => !is_ground(phase),
-        0xDA => !is_ground(phase),
-        0xE3 => !is_ground(phase),
-        0xEE => !is_ground(phase),
-        0xF0 => !is_ground(phase),
-        0xFD => !is_ground(phase),
-        0xFE => !is_ground(phase),
+        0x5A | 0x63 | 0x6E | 0x70 | 0x7D | 0x7E => !is_ground(phase),
+        0xDA | 0xE3 | 0xEE | 0xF0 | 0xFD | 0xFE => !is_ground(phase),
         0x9A => true,
         _ => false,
     }
 }
 
 // What such a byte asks for.
+#[tactic(auto, unfolding(parser::specs::Parser::decode, parser::specs::Parser::transition))]
 pub fn interruption(parser: Parser, byte: u8) -> Action
     requires { events.interrupts parser.phase byte ≡ true }
     ensures { result ≡ (decode parser byte).action }
