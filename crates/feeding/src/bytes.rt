@@ -110,8 +110,13 @@ pub fn feed_bytes(
     let mut read = 0;
     let mut replied = 0;
     while read < input.len() {
-        let Displays { core, line } = state.displays;
-        let Some(heeded) = heed(core, line, input[read], reply, replied) else {
+        let Some(heeded) = heed(
+            state.displays.core,
+            state.displays.line,
+            input[read],
+            reply,
+            replied,
+        ) else {
             return FedBytes {
                 state,
                 read,
@@ -121,22 +126,26 @@ pub fn feed_bytes(
         };
         replied = heeded.replied;
         let action = heeded.action;
-        let selector = core.parser.params.get(0);
-        if line.active & !leaves_line(action) {
-            let run = feed_display(line_view(core, line), 0, cells, &input[read..read + 1]);
-            state.displays = Displays {
-                core: page_behind(core, run.core),
-                line: tell_line(line_behind(line, run.core), action, selector),
-            };
+        let selector = state.displays.core.parser.params.get(0);
+        if state.displays.line.active & !leaves_line(action) {
+            let view = line_view(state.displays.core, state.displays.line);
+            let run = feed_display(view, 0, cells, &input[read..read + 1]);
+            state.displays.core = page_behind(state.displays.core, run.core);
+            let line = line_behind(state.displays.line, run.core);
+            state.displays.line = tell_line(line, action, selector);
             state.tracked.flag |= run.changed != 0;
             read += 1;
         } else {
             let end = turn_end(tells_line(action), read, input.len());
-            let run = feed_display(core, state.tracked.changed, page, &input[read..end]);
-            state.displays = Displays {
-                core: run.core,
-                line: tell_line(line_beside(line, run.lasting), action, selector),
-            };
+            let run = feed_display(
+                state.displays.core,
+                state.tracked.changed,
+                page,
+                &input[read..end],
+            );
+            state.displays.core = run.core;
+            let line = line_beside(state.displays.line, run.lasting);
+            state.displays.line = tell_line(line, action, selector);
             state.tracked.changed = run.changed;
             state.tracked.flag |= blank_line(action, cells);
             read += run.read;

@@ -118,7 +118,7 @@ fn goes_on(insert: bool, cursor: Cursor, input: &[u8], at: usize) -> bool
 }
 
 pub fn put_some(
-    mut printer: Printer,
+    printer: Printer,
     changed: u64,
     page: &mut [u16],
     input: &[u8],
@@ -131,6 +131,8 @@ pub fn put_some(
     let first = put_one(printer, changed, input[from], page);
     let next = from + 1;
     if goes_on(printer.core.modes.insert, first.cursor, input, next) {
+        // Copied here alone: a `mut` parameter is copied for the first one too.
+        let mut printer = printer;
         printer.core.cursor = first.cursor;
         return put_row(printer, first.changed, page, input, next);
     }
