@@ -21,6 +21,7 @@ pub enum Phase {
 // What is done with a byte.
 #[derive(Clone, Copy)]
 pub enum Op {
+    // Nothing: one of the arms of each match, where an Option would have two levels.
     Ignore,
     // A graphic character in ground.
     Print,
