@@ -48,6 +48,7 @@ fn body_len(reply: Reply) -> usize
 }
 
 // None takes none.
+#[tactic(auto, unfolding(crate::specs::ReplyBytes::reply_bytes))]
 pub fn reply_len(eightbit: bool, reply: Option<Reply>) -> usize
     ensures { result ≡ length (reply_bytes eightbit reply) }
 {
@@ -116,6 +117,7 @@ fn send_body(out: &mut Writer, reply: Reply)
 }
 
 // From a place of the buffer on. Returns the place after the reply.
+#[tactic(auto, unfolding(crate::specs::ReplyBytes::reply_bytes))]
 pub fn send(eightbit: bool, reply: Option<Reply>, out: &mut [u8], at: usize) -> usize
     requires { at + length (reply_bytes eightbit reply) ≤ length out.old }
     ensures { Wrote out.old at (reply_bytes eightbit reply) out.new result }

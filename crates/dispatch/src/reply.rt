@@ -8,7 +8,6 @@ ghost use Rattle.dispatch.specs.Replies.{reported_row, plain_reply, private_repl
 use core_state::Core;
 use core_state::geometry::first_row;
 use device::sending::Reply;
-use ground::numbers::back;
 use parser::families::Function;
 use parser::params::Params;
 use parser::parser::Action;
@@ -18,8 +17,7 @@ fn reported_row(core: Core) -> u8
     requires { Bounds core }
     ensures { result ≡ reported_row core }
 {
-    let first = first_row(core) as u16;
-    back(core.cursor.row, first, 0) + 1
+    core.cursor.row.saturating_sub(first_row(core)) + 1
 }
 
 // DA, DSR, CPR.
@@ -27,23 +25,18 @@ fn plain_reply(core: Core, params: Params, last: u8) -> Option<Reply>
     requires { Bounds core }
     ensures { result ≡ plain_reply core params last }
 {
-    let selector = params.get(0);
-    // DA
-    if (last == 0x63) & (selector == 0) {
-        return Some(Reply::PrimaryAttributes);
-    }
-    // DSR
-    if (last == 0x6E) & (selector == 5) {
-        return Some(Reply::Status);
-    }
-    // CPR
-    if (last == 0x6E) & (selector == 6) {
-        return Some(Reply::Position {
+    match (last, params.get(0)) {
+        // DA
+        (0x63, 0) => Some(Reply::PrimaryAttributes),
+        // DSR
+        (0x6E, 5) => Some(Reply::Status),
+        // CPR
+        (0x6E, 6) => Some(Reply::Position {
             row: reported_row(core),
             column: core.cursor.column,
-        });
+        }),
+        _ => None,
     }
-    None
 }
 
 // DECXCPR and the printer's DSR.
@@ -51,26 +44,25 @@ fn private_reply(core: Core, params: Params, last: u8) -> Option<Reply>
     requires { Bounds core }
     ensures { result ≡ private_reply core params last }
 {
-    let selector = params.get(0);
-    // DECXCPR
-    if (last == 0x6E) & (selector == 6) {
-        return Some(Reply::ExtendedPosition {
+    match (last, params.get(0)) {
+        // DECXCPR
+        (0x6E, 6) => Some(Reply::ExtendedPosition {
             row: reported_row(core),
             column: core.cursor.column,
-        });
+        }),
+        // the printer's DSR
+        (0x6E, 15) => Some(Reply::Printer),
+        _ => None,
     }
-    // the printer's DSR
-    if (last == 0x6E) & (selector == 15) {
-        return Some(Reply::Printer);
-    }
-    None
 }
 
 // Secondary DA: > c.
 fn is_secondary(function: Function) -> bool
     ensures { result ≡ is_secondary function.mark function.first function.second function.last }
 {
-    ((function.mark == 0x3E) & ((function.first == 0) & (function.second == 0)))
+    (function.mark == 0x3E)
+        & (function.first == 0)
+        & (function.second == 0)
         & (function.last == 0x63)
 }
 
@@ -95,10 +87,10 @@ fn sequence_reply(core: Core, function: Function) -> Option<Reply>
 fn control_reply(byte: u8) -> Option<Reply>
     ensures { result ≡ (if nat_eq byte 0x9A then Some PrimaryAttributes else None) }
 {
-    if byte == 0x9A {
-        return Some(Reply::PrimaryAttributes);
+    match byte {
+        0x9A => Some(Reply::PrimaryAttributes),
+        _ => None,
     }
-    None
 }
 
 // No reply is drawn by what is not heard, so that is not asked.

@@ -8,7 +8,7 @@ use lib.Dec.{eqb}
 use lib.ListN.{length, get_or, take, length-map, length-take}
 use lib.Seq.{take-suc, take-length}
 use borrow.Author.Tests.{ne_eqb}
-use Rattle.ground.proofs.ListLaws.{take-map}
+use Rattle.std.proofs.lemmas.List.{take-map}
 use Rattle.ground.proofs.TestLaws.{either}
 use Rattle.text.specs.Text.{sign, before, trimmed}
 

@@ -71,6 +71,7 @@ fn graphic_sign(code: u16) -> u16
 
 // The code point of a cell's word: bits 0 to 6 are its code, 7 and 8 its set. Code 1A, which SUB
 // puts, is U+2426 in each set.
+#[tactic(auto, unfolding(cells::specs::Cells::unpacked, crate::specs::Text::sign))]
 pub fn sign(word: u16) -> u16
     ensures { result ≡ sign word }
 {
