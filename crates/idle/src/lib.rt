@@ -1,7 +1,7 @@
 // Bytes that only move the parser: ESC; CSI, its private mark and its parameters; what opens a string, and its text.
 #![tactic(auto)]
 
-ghost use Rattle.std.specs.Prelude.{◌≡◌, true, false, ◌&&◌, ◌≤◌, eqb, ltb, length, get_or};
+ghost use Rattle.std.specs.Prelude.{◌≡◌, true, ◌&&◌, ◌≤◌, eqb, ltb, length, get_or};
 ghost use Rattle.idle.specs.Idle.{gathers, opens, is_text, begun, Separated, Skipped, AfterCsi};
 ghost use Rattle.parser.specs.Phases.{takes_parameters, is_string};
 
