@@ -68,8 +68,8 @@ unfolding all_text feeds_of
 taken-none input most = record { inside = omega arith; cut = refl; few = omega arith; text = refl; counted = refl }
 
 -- one block more
-pub taken-more : {input rest rest' : List ℕ} {most feeds len more : ℕ} (block : List ℕ) → Taken input rest most feeds len → rest ≡ block ++ rest' → length block ≡ 16
-    → all_text block ≡ true → more ≡ feeds_of block → feeds + more ≤ most → Taken input rest' most (feeds + more) (len + 16)
+pub taken-more : {input rest rest' : List ℕ} {most feeds len more : ℕ} (block : List ℕ) → Taken input rest most feeds len → rest ≡ block ++ rest'
+    → length block ≡ 16 → all_text block ≡ true → more ≡ feeds_of block → feeds + more ≤ most → Taken input rest' most (feeds + more) (len + 16)
 taken-more {input} {rest} {rest'} {most} {feeds} {len} {more} block T cut long text is few =
     let here : drop len input ≡ block ++ rest' = sym T.cut ∙ cut in
     let size : length (drop len input) ≡ 16 + length rest' = ap length here ∙ length-append block rest' ∙ ap (λ (k : ℕ). k + length rest') long in

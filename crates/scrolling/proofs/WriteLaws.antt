@@ -159,7 +159,7 @@ module _ {n : ℕ} {newline : Bool} {pen : Pen} {start : Written} {text : List �
       }
 
 -- a run of characters, as many as come in the row and in the text
-pub writing-run : {n : ℕ} {newline : Bool} {pen : Pen} {start : Written} {text : List ℕ} {p : List ℕ} {k c : ℕ} {rest : List ℕ} {q : List ℕ} {at most : ℕ} {r : Run}
+pub writing-run : {n : ℕ} {newline : Bool} {pen : Pen} {start : Written} {text p : List ℕ} {k c : ℕ} {rest q : List ℕ} {at most : ℕ} {r : Run}
     → Writing n newline pen start text p k c rest → at ≡ 80 * k + (c - 1) → most ≡ min (length rest) (81 - c) → PutCharacters p q at most rest 0 pen r
     → Writing n newline pen start text q k (min (c + r.count) 80) (take (length rest - r.count) (drop r.count rest))
 writing-run {n} {newline} {pen} {start} {text} {p} {k} {c} {rest} {q} {at} {most} {r} W place room P =
@@ -169,7 +169,8 @@ writing-run {n} {newline} {pen} {start} {text} {p} {k} {c} {rest} {q} {at} {most
     let f = sym (ap feeds_of parts) ∙ feeds-append (take r.count rest) (drop r.count rest) in
     let paged : q ≡ paste p (80 * k + (c - 1)) (map (pen_word pen) rest) r.count =
     P.pasted.page ∙ ap (λ (x : ℕ). paste p x (map (pen_word pen) rest) r.count) place in
-    let all : take (length rest - r.count) (drop r.count rest) ≡ drop r.count rest = take_all (length rest - r.count) (drop r.count rest) (omega (arith, length-drop r.count rest)) in
+    let all : take (length rest - r.count) (drop r.count rest) ≡ drop r.count rest =
+    take_all (length rest - r.count) (drop r.count rest) (omega (arith, length-drop r.count rest)) in
     rw all (record {
       long = pasted-long P.pasted (omega (arith, W.rows, W.left)) (simp length-map (omega arith)) ∙ W.long;
       few = W.few;

@@ -8,7 +8,8 @@ use Rattle.scrolling.proofs.ahead.lines_ahead.Goals as goal
 use Rattle.scrolling.proofs.ahead.lines_ahead.Goals.{Else-most-feeds}
 
 -- one block more
-more : (c : Else-most-feeds) → Taken c.args.input.now (chunks_exact_rest c.next.new.self) c.args.most (c.loop-block.feeds + c.feeds_in-more.result) (c.loop-block.len + 16)
+more : (c : Else-most-feeds)
+    → Taken c.args.input.now (chunks_exact_rest c.next.new.self) c.args.most (c.loop-block.feeds + c.feeds_in-more.result) (c.loop-block.len + 16)
 more c =
     let cut = c.in-Some.ensures.steps.1 in
     taken-more c.in-Some.block.now c.loop-block.invariant.1 cut.0 (cut.1 ∙ c.loop-block.invariant.0) (sym c.if-not-text_block.ensures) c.feeds_in-more.ensures.1
