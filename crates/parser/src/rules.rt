@@ -133,17 +133,11 @@ fn phase_rule(phase: Phase, byte: u8) -> Transition
 pub fn transition(phase: Phase, byte: u8) -> Transition
     ensures { result ≡ parsing.transition phase byte }
 {
-    if byte == 0x18 {
-        return to(Phase::Ground, Op::Ignore);
+    match byte {
+        0x18 => to(Phase::Ground, Op::Ignore),
+        0x1A => to(Phase::Ground, Op::Sub),
+        0x1B => to(Phase::Escape, Op::Clear),
+        0x80..=0x9F => c1_rule(byte),
+        _ => phase_rule(phase, byte),
     }
-    if byte == 0x1A {
-        return to(Phase::Ground, Op::Sub);
-    }
-    if byte == 0x1B {
-        return to(Phase::Escape, Op::Clear);
-    }
-    if between(0x80, byte, 0x9F) {
-        return c1_rule(byte);
-    }
-    phase_rule(phase, byte)
 }
