@@ -20,7 +20,7 @@ use parser::families::Function;
 use parser::params::Params;
 use rectangles::functions::{rectangle_edit, select_extent};
 
-// With no mark and no intermediate. DECSTBM comes with margins that are taken.
+// With no mark and no intermediate, one arm for each final. DECSTBM comes with margins that are taken.
 fn plain_sequence(core: Core, params: Params, last: u8) -> Decision
     requires { Bounds core × (last ≡ 0x72 → sequences.margins_taken core params ≡ true) }
     ensures { result ≡ sequences.plain_sequence core params last }
@@ -31,13 +31,14 @@ fn plain_sequence(core: Core, params: Params, last: u8) -> Decision
         0x42 => cursor_down(core, params.n()), // CUD
         0x43 => cursor_right(core, params.n()), // CUF
         0x44 => cursor_left(core, params.n()), // CUB
+        0x48 => cursor_position(core, params.get(0), params.get(1)), // CUP
         0x4A => erase_in_display(core, params.get(0)), // ED
         0x4B => erase_in_line(core, params.get(0)), // EL
         0x4C => insert_lines(core, params.n()), // IL
         0x4D => delete_lines(core, params.n()), // DL
         0x50 => delete_characters(core, params.n()), // DCH
         0x58 => erase_characters(core, params.n()), // ECH
-        0x48 | 0x66 => cursor_position(core, params.get(0), params.get(1)), // CUP, HVP
+        0x66 => cursor_position(core, params.get(0), params.get(1)), // HVP
         0x67 => clear_tabs(core, params), // TBC
         0x68 => set_ansi_modes(core, params, true), // SM
         0x6C => set_ansi_modes(core, params, false), // RM

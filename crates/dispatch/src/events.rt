@@ -6,13 +6,23 @@ ghost use Rattle.dispatch.specs.Events as events;
 use parser::parser::{Action, Parser};
 use parser::phases::{Phase, is_ground};
 
-// DECID; and in a sequence the finals Z c n p } ~, also as the byte 80 higher.
+// DECID; and in a sequence the finals Z c n p } ~, also as the byte 80 higher. One arm for each, as in `is_touch`.
 pub fn interrupts(phase: Phase, byte: u8) -> bool
     ensures { result ≡ events.interrupts phase byte }
 {
     match byte {
-        0x5A | 0x63 | 0x6E | 0x70 | 0x7D | 0x7E => !is_ground(phase),
-        0xDA | 0xE3 | 0xEE | 0xF0 | 0xFD | 0xFE => !is_ground(phase),
+        0x5A => !is_ground(phase),
+        0x63 => !is_ground(phase),
+        0x6E => !is_ground(phase),
+        0x70 => !is_ground(phase),
+        0x7D => !is_ground(phase),
+        0x7E => !is_ground(phase),
+        0xDA => !is_ground(phase),
+        0xE3 => !is_ground(phase),
+        0xEE => !is_ground(phase),
+        0xF0 => !is_ground(phase),
+        0xFD => !is_ground(phase),
+        0xFE => !is_ground(phase),
         0x9A => true,
         _ => false,
     }

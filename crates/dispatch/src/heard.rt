@@ -25,14 +25,17 @@ fn ignores_lines(core: Core) -> bool
     is_line(core) | !inside_margins(core)
 }
 
-// By the first parameter: ICH, IL, DL, DCH outside T to B, IL and DL on the status line; ED, EL with a selector that is not listed.
+// One arm for each final, as in `is_touch`. By the first parameter: ICH, IL, DL, DCH outside T to B, IL and DL on the status line; ED, EL with a selector that is not listed.
 pub fn touch_ignored(core: Core, first: u16, last: u8) -> bool
     ensures { result ≡ touch_ignored core first last }
 {
     match last {
-        0x40 | 0x50 => !inside_margins(core), // ICH, DCH
-        0x4A | 0x4B => 2 < first, // ED, EL
-        0x4C | 0x4D => ignores_lines(core), // IL, DL
+        0x40 => !inside_margins(core), // ICH
+        0x4A => 2 < first, // ED
+        0x4B => 2 < first, // EL
+        0x4C => ignores_lines(core), // IL
+        0x4D => ignores_lines(core), // DL
+        0x50 => !inside_margins(core), // DCH
         _ => false,
     }
 }

@@ -52,7 +52,7 @@ fn narrow(decision: Decision) -> Touch
 
 // ---- control sequences, with no mark and no intermediate
 
-// One arm for each final: with alternatives in one arm control sequences take up to 5 % more instructions.
+// One arm for each final: with alternatives in one arm control sequences take some 5 % more instructions.
 pub fn is_touch(last: u8) -> bool
     ensures { result ≡ touches.is_touch last }
 {
@@ -74,26 +74,26 @@ pub fn is_touch(last: u8) -> bool
     }
 }
 
-// What it does if it is not ignored.
+// What it does if it is not ignored. Each arm narrows, so that the compiler drops what is not used of its decision.
 fn heard_touch(core: Core, first: u16, second: u16, last: u8) -> Touch
     requires { Bounds core }
     ensures { result ≡ touches.narrowed (touches.touch_decided core first second last) }
 {
     let n = or_one(first);
-    narrow(match last {
-        0x40 => insert_characters(core, n), // ICH
-        0x41 => cursor_up(core, n), // CUU
-        0x42 => cursor_down(core, n), // CUD
-        0x43 => cursor_right(core, n), // CUF
-        0x44 => cursor_left(core, n), // CUB
-        0x4A => erase_in_display(core, first), // ED
-        0x4B => erase_in_line(core, first), // EL
-        0x4C => insert_lines(core, n), // IL
-        0x4D => delete_lines(core, n), // DL
-        0x50 => delete_characters(core, n), // DCH
-        0x58 => erase_characters(core, n), // ECH
-        _ => cursor_position(core, first, second), // CUP, HVP
-    })
+    match last {
+        0x40 => narrow(insert_characters(core, n)), // ICH
+        0x41 => narrow(cursor_up(core, n)), // CUU
+        0x42 => narrow(cursor_down(core, n)), // CUD
+        0x43 => narrow(cursor_right(core, n)), // CUF
+        0x44 => narrow(cursor_left(core, n)), // CUB
+        0x4A => narrow(erase_in_display(core, first)), // ED
+        0x4B => narrow(erase_in_line(core, first)), // EL
+        0x4C => narrow(insert_lines(core, n)), // IL
+        0x4D => narrow(delete_lines(core, n)), // DL
+        0x50 => narrow(delete_characters(core, n)), // DCH
+        0x58 => narrow(erase_characters(core, n)), // ECH
+        _ => narrow(cursor_position(core, first, second)), // CUP, HVP
+    }
 }
 
 // What the end of a sequence does whose first two parameters these are.
@@ -143,7 +143,7 @@ pub fn control_touch(core: Core, byte: u8) -> Touch
     match byte {
         0x08 => narrow(backspace(core)), // BS
         0x09 => narrow(horizontal_tab(core)), // HT
-        0x0A..=0x0C => narrow(line_feed(core)), // LF, VT, FF
+        0x0A | 0x0B | 0x0C => narrow(line_feed(core)), // LF, VT, FF
         0x0D => narrow(carriage_return(core)), // CR
         0x84 => narrow(index(core)), // IND
         0x85 => narrow(next_line(core)), // NEL
