@@ -11,14 +11,10 @@ use std::io;
 use std::io::{ErrorKind, Read, Write};
 use steps::State;
 use terminal::Refusal;
+use terminal::answers::{DONE, NO_ROOM};
 use terminal::calls::{ask, feed, fresh, read, start};
 use terminal::rows::row;
 use text::write_text;
-
-// The scope's numbers of the answers that are no refusals.
-const DONE: u8 = 0;
-
-const NO_ROOM: u8 = 3;
 
 // The newest state, and how many words of the buffers are lent as the page and as the line.
 #[derive(Clone, Copy)]

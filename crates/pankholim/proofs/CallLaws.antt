@@ -3,45 +3,37 @@ use mathlib.Core.Path.{◌≡◌, refl, sym, ap, ◌∙◌}
 use mathlib.Core.Bool.{true, false}
 use mathlib.Core.List.{List}
 use Prim.Native.Nat.{ℕ}
-use lib.ListN.{length}
 use Rattle.cells.specs.Sets.{size_of, has_bit}
 use Rattle.std.specs.Prelude.{Result, Ok, Err}
 use Rattle.terminal.specs.declared.Refusal.{Refusal}
 use Rattle.terminal.specs.declared.Refusal.TheVariants as R
 use Rattle.terminal.specs.declared.Asked.{Asked as Report}
-use Rattle.terminal.specs.declared.CursorRead.{CursorRead as CursorFound}
-use Rattle.terminal.specs.Answers.{Done, number, answer_of, whole_checked}
+use Rattle.terminal.specs.Answers.{Done, whole_checked}
 use Rattle.feeding.specs.declared.bytes.FedBytes.{FedBytes}
 use Rattle.steps.specs.declared.State.{State}
-use Rattle.steps.specs.Steps.{Buffers, buffers}
-use Rattle.terminal.specs.Start.{start_as, start_refused, started}
+use Rattle.steps.specs.Steps.{Buffers}
+use Rattle.terminal.specs.Start.{start_as, started}
 use Rattle.steps.specs.Whole.{whole_state, right_sizes}
 use Rattle.terminal.specs.Feed.{feed_told, fed, Taken}
 use Rattle.terminal.specs.Ask.{asked, ask_told}
 use Rattle.terminal.specs.Read.{page_answer, read_answer, read_gives, read_told, cell_read}
-use Rattle.terminal.specs.Row.{row_read}
-use Rattle.terminal.specs.CursorRead.{cursor_told, cursor_read}
+use Rattle.terminal.specs.CursorRead.{cursor_read}
 use Rattle.record.specs.declared.Terminal.{Terminal}
 use Rattle.record.specs.Numbers.{flag_number}
 use Rattle.record.specs.Record.{state_of, record_of, emptied}
 use Rattle.record.specs.Plain.{plain}
-use Rattle.inplace.specs.InPlace.{FedInPlace}
-use Rattle.pankholim.specs.Leaves.{StartLeaves, FeedGives, AskLeaves, RowLeaves, CursorLeaves}
-use Rattle.terminal.proofs.CallLaws.{refusing, asked-done, read_as, fed-broken, fed-size, fitting-refusal, whole-refused}
+use Rattle.pankholim.specs.Leaves.{StartLeaves, FeedGives, AskLeaves, CursorLeaves}
+use Rattle.terminal.proofs.CallLaws.{asked-done, read_as, fed-broken, fed-size, fitting-refusal, whole-refused}
 use Rattle.record.proofs.RecordLaws.{state-back}
 use Rattle.record.proofs.PlainLaws.{plain-named, plain-whole}
 use Rattle.record.proofs.EmptiedLaws.{untold, emptied-is, whole-named, told}
 
--- ---- the calls, done and refused
+-- ---- the calls
 
 module _ (t : Terminal) (n : ℕ) (p q : Buffers) where
   pub start-done : (s : State) → start_as Done s q ≡ started n p → StartLeaves t (started n p) 0 (record_of s) q
   start-done s done =
       rw (← done) (record { answer-is = refl; state-is = state-back s; terminal-is = refl; buffers-is = refl })
-
-  pub start-refused : (e : Refusal) → start_refused (answer_of e) q ≡ started n p → StartLeaves t (started n p) (number (answer_of e)) t q
-  start-refused e done =
-      rw (← done) (record { answer-is = refl; state-is = rw (refusing e) refl; terminal-is = rw (refusing e) refl; buffers-is = refl })
 
 pub ask-done : (t : Terminal) (s : State) (a : Report) → s ≡ state_of t → ask_told s (Ok a) ≡ asked s
     → AskLeaves t (asked (state_of t)) 0 (record_of a.state) a.rows a.count (flag_number a.flag)
@@ -52,20 +44,6 @@ ask-done t s a es ed =
       answer-is = refl;
       state-is = state-back a.state;
       terminal-is = refl;
-      changed-is = refl;
-      count-is = refl;
-      flag_is = refl;
-    })
-
-pub ask-refused : (t : Terminal) (s : State) (e : Refusal) → s ≡ state_of t → ask_told s (Err e) ≡ asked s
-    → AskLeaves t (asked (state_of t)) (number (answer_of e)) t 0 0 0
-ask-refused t s e es ed =
-    let done = rw es at ed in
-    rw (← done)
-    (record {
-      answer-is = refl;
-      state-is = refl;
-      terminal-is = rw (refusing e) refl;
       changed-is = refl;
       count-is = refl;
       flag_is = refl;
@@ -90,27 +68,6 @@ feed-done t s p i o d q reply u es ed eu =
 pub read-leaves : (t : Terminal) (s : State) (p : List ℕ) (row column : ℕ) (d : Result ℕ Refusal)
     → s ≡ state_of t → read_told d ≡ cell_read s p row column → read_told d ≡ cell_read (state_of t) p row column
 read-leaves t s p row column d es ed = rw es at ed
-
-pub row-leaves : (t : Terminal) (s : State) (p : Buffers) (row r : ℕ) (part : List ℕ)
-    → s ≡ state_of t → record { number = r; cells = part } ≡ row_read s p row
-    → RowLeaves (row_read (state_of t) p row) r part
-row-leaves t s p row r part es ed =
-    let done = rw es at ed in
-    rw (← done) (record { answer-is = refl; part-is = refl })
-
-pub cursor-leaves : (t : Terminal) (s : State) (d : CursorFound)
-    → s ≡ state_of t → cursor_told (Ok d) ≡ cursor_read s
-    → CursorLeaves (cursor_read (state_of t)) 0 d.row d.column (flag_number d.wrap) (flag_number d.shown)
-cursor-leaves t s d es ed =
-    let done = rw es at ed in
-    rw (← done) (record { answer-is = refl; row_is = refl; column-is = refl; wrap-is = refl; shown-is = refl })
-
-pub cursor-refused : (t : Terminal) (s : State) (e : Refusal)
-    → s ≡ state_of t → cursor_told (Err e) ≡ cursor_read s
-    → CursorLeaves (cursor_read (state_of t)) (number (answer_of e)) 0 0 0 0
-cursor-refused t s e es ed =
-    let done = rw es at ed in
-    rw (← done) (record { answer-is = refl; row_is = refl; column-is = refl; wrap-is = refl; shown-is = refl })
 
 -- ---- a plain record, told of as it lies
 
@@ -161,10 +118,3 @@ module _ (t : Terminal) (p : Buffers) (i o : List ℕ) where
 
   pub feed-takes : (s : State) → s ≡ state_of t → whole_state (state_of t) ≡ true → right_sizes t.rows p ≡ true → Taken s p
   feed-takes s es e h = rw es (record { whole = e; sizes = rw (told t (whole-named t e)).rows h })
-
-  -- characters that were put in place
-  pub feed-put : (u : Terminal) (q : List ℕ) → length p.line ≡ 80 → FedInPlace t p.page i u q
-      → FeedGives t (fed (state_of t) p i o) (Ok (record { terminal = u; read = length i; replied = 0; full = false })) (buffers q p.line) o
-  feed-put u q h F =
-      rw (← F.fed-is p.line o h)
-      (record { answer-is = refl; state-is = refl; terminal-is = F.back; buffers-is = refl; reply-is = refl; read_is = refl; replied-is = refl })

@@ -31,6 +31,3 @@ module _ (p o : List ℕ) where
 
     pub leaves-whole : (n : ℕ) → w ≡ Ok n → WriteLeaves p o 0 b n
     leaves-whole n is = record { answer-is = rw (e, is); out-is = rw e; len_is = rw (e, is) at taken_is }
-
-    pub leaves_none : (n : ℕ) (x : TooSmall) → w ≡ Err x → n ≡ length (page_text p) → WriteLeaves p o 3 b n
-    leaves_none n x is len = record { answer-is = rw (e, is); out-is = rw e; len_is = len }

@@ -1,4 +1,5 @@
-// The terminal for C: one record per modem, changed where it lies.
+// The terminal for C: one record per modem, changed where it lies. Answers are numbers and results go through parameters:
+// the C interface (specs/Leaves.antt).
 #![tactic(auto)]
 
 mod by_value;
@@ -23,13 +24,9 @@ use record::from_state::{emptied, record_of};
 use record::numbers::flag_number;
 use record::plain::is_plain;
 use record::to_state::state_of;
+use terminal::answers::{DONE, NO_ROOM};
 use terminal::{calls, rows};
 use text::{text_len, write_text};
-
-// The scope's numbers of the answers that are no refusals.
-const DONE: u8 = 0;
-
-const NO_ROOM: u8 = 3;
 
 const MAJOR: u32 = 0;
 

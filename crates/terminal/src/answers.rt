@@ -1,10 +1,15 @@
-// A refusal in words, and as the scope's number.
+// The scope's numbers of the answers, and a refusal in words.
 ghost use Rattle.std.specs.Prelude.{◌≡◌};
 ghost use Rattle.terminal.specs.Answers.{number, answer_of};
 
 use crate::Refusal;
 use std::error::Error;
 use std::fmt;
+
+// The numbers of the answers that are no refusals.
+pub const DONE: u8 = 0;
+
+pub const NO_ROOM: u8 = 3;
 
 impl fmt::Display for Refusal {
     fn fmt<W: fmt::Write>(&self, f: &mut fmt::Formatter<W>) -> fmt::Result {

@@ -1,7 +1,7 @@
 -- A plain record is told of as it lies, and another by its state.
 use Rattle.std.proofs.Common.{sym, ◌∙◌, rules}
 use Rattle.record.proofs.PlainLaws.{plain-changed}
-use Rattle.pankholim.proofs.CallLaws.{ask-plain, ask-done, ask-refused}
+use Rattle.pankholim.proofs.CallLaws.{ask-plain, ask-done}
 use Rattle.pankholim.proofs.pankholim_ask.Goals as goal
 
 pub returns-then-is_plain : goal.returns-then-is_plain
@@ -12,6 +12,3 @@ returns-then-is_plain c =
 
 pub returns-in-Ok : goal.returns-in-Ok
 returns-in-Ok c = search (rules, ask-done)
-
-pub returns-in-Err : goal.returns-in-Err
-returns-in-Err c = search (rules, ask-refused)

@@ -10,10 +10,9 @@ use Rattle.record.specs.Record.{state_of}
 use Rattle.record.proofs.PlainLaws.{plain-whole}
 use Rattle.record.proofs.EmptiedLaws.{named-with, whole-named}
 use Rattle.std.proofs.Common.{rules}
-use Rattle.terminal.proofs.CallLaws.{sizes-fit, whole-passed}
-use Rattle.inplace.specs.InPlace.{takes_in_place}
+use Rattle.terminal.proofs.CallLaws.{whole-passed}
 use Rattle.inplace.proofs.PlaceLaws.{taking}
-use Rattle.pankholim.proofs.CallLaws.{feed-broken, feed-sized, feed-takes, feed-put, feed-done}
+use Rattle.pankholim.proofs.CallLaws.{feed-broken, feed-sized, feed-takes, feed-done}
 use Rattle.pankholim.proofs.by_value.feed.Goals as goal
 use Rattle.pankholim.proofs.by_value.feed.Goals.{Joined-not-plain, Then-plain-right, Then-takes, then-not-plain+in_ok-check_record, else-not-plain}
 
@@ -25,33 +24,10 @@ plainly c = sym c.is_plain-plain.ensures ∙ and_left c.is_plain-plain.result _ 
 fits : (c : Then-plain-right) → right_sizes c.args.terminal.rows (buffers c.args.page.now c.args.line.now) ≡ true
 fits c = and_right c.is_plain-plain.result _ c.if-plain-right.true
 
-takes : (c : Then-takes) → let a = c.args in takes_in_place a.terminal a.input.now ≡ true
-takes c = sym c.takes.ensures ∙ c.if-takes.true
-
-pub put_in_place-changed-requires : goal.put_in_place-changed-requires
-put_in_place-changed-requires c =
-    (plainly (goal.at.put_in_place-changed-requires c).Then-plain-right, takes (goal.at.put_in_place-changed-requires c).Then-takes, (sizes-fit c.args.terminal.rows (buffers c.args.page.now c.args.line.now) (fits (goal.at.put_in_place-changed-requires c).Then-plain-right)).0)
-
 pub moved-requires : goal.moved-requires
 moved-requires c =
     let a = c.args in
-    (plainly (goal.at.moved-requires c).Then-plain-right, (taking a.terminal a.input.now (takes (goal.at.moved-requires c).Then-takes)).room)
-
-pub returns-then-takes : goal.returns-then-takes
-returns-then-takes c =
-    let a = c.args in
-    feed-put a.terminal (buffers c.args.page.now c.args.line.now) a.input.now a.reply.now c.moved.result _ (sizes-fit a.terminal.rows (buffers c.args.page.now c.args.line.now) (fits (goal.at.returns-then-takes c).Then-plain-right)).1
-    (rw c.moved.ensures c.put_in_place-changed.ensures)
-
-pub steered-requires : goal.steered-requires
-steered-requires c =
-    (plainly (goal.at.steered-requires c).Then-plain-right, sym c.steers.ensures ∙ c.if-steers.true)
-
-pub returns-then-steers : goal.returns-then-steers
-returns-then-steers c =
-    let a = c.args in
-    let sizes = sizes-fit a.terminal.rows (buffers c.args.page.now c.args.line.now) (fits (goal.at.returns-then-steers c).Then-plain-right) in
-    feed-put a.terminal (buffers c.args.page.now c.args.line.now) a.input.now a.reply.now c.steered.result _ sizes.1 (c.steered.ensures _ sizes.0)
+    (plainly (goal.at.moved-requires c).Then-plain-right, (taking a.terminal a.input.now (sym c.takes.ensures ∙ c.if-takes.true)).room)
 
 -- ---- by its state
 
