@@ -14,6 +14,7 @@ pub enum Register {
 }
 
 // A pending single shift.
+// (No `Option` of two variants: it takes two bytes, and `columns`, `random` and `final` then exceed bench/bounds.txt by 5 %.)
 #[derive(Clone, Copy, PartialEq, Eq, Debug)]
 pub enum SingleShift {
     NoShift,
