@@ -18,7 +18,7 @@ use terminal::calls::{feed, start};
 use text::write_text;
 
 // All bytes of one read. A call stops before a reply that does not fit; the next one has the whole buffer
-// again. No reply is longer than 11 bytes, so each call reads a byte.
+// again. No reply is longer than 11 bytes, so each call reads a byte. A `while`, since a call tells how far it read.
 fn feed_all(
     state: State,
     page: &mut [u16],

@@ -3,7 +3,7 @@ ghost use Rattle.std.specs.Prelude.{◌≡◌, ◌-◌, ◌/◌, ◌%◌, ◌≤
 ghost use Rattle.device.specs.Tabs.{is_tab, with_tab, without_tab, no_tabs, next_tab};
 ghost use Rattle.device.specs.TabSearch.{any_among, searched};
 
-// Eighty flags, eight to a byte: column 1 is the lowest bit of the first byte.
+// Eighty flags, eight to a byte: column 1 is the lowest bit of the first byte. (The record for C holds these bytes.)
 #[derive(Clone, Copy)]
 pub struct Tabs {
     pub flags: [u8; 10],

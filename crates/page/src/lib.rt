@@ -12,6 +12,7 @@ use cells::CellChange;
 // numbers (rows::Block is no shorter where an edit is built, and the definitions and theorems of six crates match these).
 #[derive(Clone, Copy)]
 pub enum Edit {
+    // No cell. (One of the arms of each match, where an Option would have two levels.)
     Keep,
     // A word into one cell.
     Put {

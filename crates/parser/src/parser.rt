@@ -20,7 +20,8 @@ pub struct Parser {
     pub params: Params,
 }
 
-// What a byte asks the terminal to do. An intermediate or a mark that is not there is 0.
+// What a byte asks the terminal to do. An intermediate or a mark that is not there is 0. (`Nothing`, as `Op::Ignore`, is one of
+// the arms of each match.)
 #[derive(Clone, Copy)]
 pub enum Action {
     Nothing,
