@@ -21,7 +21,6 @@ use cells::BLANK;
 use cells::marks::count_rows;
 use record::Terminal;
 use record::from_state::{emptied, record_of};
-use record::numbers::flag_number;
 use record::plain::is_plain;
 use record::to_state::state_of;
 use terminal::answers::{DONE, NO_ROOM};
@@ -113,7 +112,7 @@ pub fn pankholim_ask(
             *terminal = record_of(asked.state);
             *changed = asked.rows;
             *count = asked.count;
-            *flag = flag_number(asked.flag);
+            *flag = u8::from(asked.flag);
             DONE
         }
         Err(refusal) => {
@@ -193,8 +192,8 @@ pub fn pankholim_cursor(
         Ok(cursor) => {
             *row = cursor.row as usize;
             *column = cursor.column as usize;
-            *wrap = flag_number(cursor.wrap);
-            *shown = flag_number(cursor.shown);
+            *wrap = u8::from(cursor.wrap);
+            *shown = u8::from(cursor.shown);
             DONE
         }
         Err(refusal) => {

@@ -2,7 +2,6 @@
 #![tactic(auto)]
 
 pub mod from_state;
-pub mod numbers;
 pub mod plain;
 pub mod to_state;
 
