@@ -4,6 +4,7 @@
 #![tactic(auto)]
 
 use cells::BLANK;
+use ground::writing::Writer;
 use probes::output::{put, put_bytes, put_number, put_words};
 use probes::pokes::{number16, poke, poke_parser};
 use probes::views::put_displays;
@@ -41,10 +42,11 @@ fn read_full(reader: &mut impl Read, bytes: &mut [u8]) -> io::Result<bool> {
     }
 }
 
-// Writes what was put into the buffer, up to a place.
-fn flush(writer: &mut impl Write, out: &[u8], end: usize) -> io::Result<()> {
-    let n = end.min(out.len());
-    writer.write_all(&out[..n])
+// Writes what was put, and begins anew.
+fn flush(writer: &mut impl Write, out: &mut Writer) -> io::Result<()> {
+    let n = out.len.min(out.bytes.len());
+    out.len = 0;
+    writer.write_all(&out.bytes[..n])
 }
 
 fn number<T: Copy>(called: Result<T, Refusal>) -> u8 {
@@ -55,22 +57,16 @@ fn number<T: Copy>(called: Result<T, Refusal>) -> u8 {
 }
 
 // The letter of a command, and the number of its answer: they begin what is written of a call.
-fn put_answer(out: &mut [u8], letter: u8, answer: u8) -> usize {
-    let name = put(out, 0, letter);
-    put(out, name, answer)
+fn put_answer(out: &mut Writer, letter: u8, answer: u8) {
+    put(out, letter);
+    put(out, answer);
 }
 
 // After a start that is refused the state is the fresh one of 24 rows.
-fn do_start(
-    state: &mut State,
-    rows: u16,
-    page: &mut [u16],
-    line: &mut [u16],
-    out: &mut [u8],
-) -> usize {
+fn do_start(state: &mut State, rows: u16, page: &mut [u16], line: &mut [u16], out: &mut Writer) {
     let begun = start(rows as usize, page, line);
     *state = begun.unwrap_or(fresh(24));
-    put_answer(out, b'S', number(begun))
+    put_answer(out, b'S', number(begun));
 }
 
 // Every byte of the reply buffer is EE before a feeding.
@@ -80,8 +76,8 @@ fn do_feed(
     line: &mut [u16],
     input: &[u8],
     reply: &mut [u8],
-    out: &mut [u8],
-) -> usize {
+    out: &mut Writer,
+) {
     reply.fill(0xEE);
     let (answer, read, replied) = match feed(*state, page, line, input, reply) {
         Ok(fed) => {
@@ -90,13 +86,13 @@ fn do_feed(
         }
         Err(refusal) => (refusal.into(), 0, 0),
     };
-    let code = put_answer(out, b'F', answer);
-    let count = put_number(out, code, read as u64, 2);
-    let sent = put_number(out, count, replied as u64, 2);
-    put_bytes(out, sent, reply)
+    put_answer(out, b'F', answer);
+    put_number(out, read as u64, 2);
+    put_number(out, replied as u64, 2);
+    put_bytes(out, reply);
 }
 
-fn do_ask(state: &mut State, out: &mut [u8]) -> usize {
+fn do_ask(state: &mut State, out: &mut Writer) {
     let (answer, rows, count, flag) = match ask(*state) {
         Ok(asked) => {
             *state = asked.state;
@@ -104,46 +100,46 @@ fn do_ask(state: &mut State, out: &mut [u8]) -> usize {
         }
         Err(refusal) => (refusal.into(), 0, 0, false),
     };
-    let code = put_answer(out, b'A', answer);
-    let set = put_number(out, code, rows, 8);
-    let size = put_number(out, set, count as u64, 1);
-    put(out, size, flag as u8)
+    put_answer(out, b'A', answer);
+    put_number(out, rows, 8);
+    put_number(out, count as u64, 1);
+    put(out, flag as u8);
 }
 
-fn do_read(state: State, page: &[u16], row: u16, column: u16, out: &mut [u8]) -> usize {
+fn do_read(state: State, page: &[u16], row: u16, column: u16, out: &mut Writer) {
     let word = read(state, page, row as usize, column as usize);
-    let code = put_answer(out, b'R', number(word));
-    put_number(out, code, word.unwrap_or(BLANK) as u64, 2)
+    put_answer(out, b'R', number(word));
+    put_number(out, word.unwrap_or(BLANK) as u64, 2);
 }
 
-fn do_row<'a>(state: State, page: &'a [u16], line: &'a [u16], at: u16, out: &mut [u8]) -> usize {
+fn do_row<'a>(state: State, page: &'a [u16], line: &'a [u16], at: u16, out: &mut Writer) {
     let found = row(state, page, line, at as usize);
-    let code = put_answer(out, b'O', number(found));
+    put_answer(out, b'O', number(found));
     let cells = found.unwrap_or(&[]);
-    let count = put_number(out, code, cells.len() as u64, 1);
-    put_words(out, count, cells)
+    put_number(out, cells.len() as u64, 1);
+    put_words(out, cells);
 }
 
 // P and D.
-fn do_words(letter: u8, words: &[u16], out: &mut [u8]) -> usize {
-    let name = put(out, 0, letter);
-    put_words(out, name, words)
+fn do_words(letter: u8, words: &[u16], out: &mut Writer) {
+    put(out, letter);
+    put_words(out, words);
 }
 
 // The text goes to the input's buffer first, which no command needs while it is written.
-fn do_text(page: &[u16], space: &mut [u8], out: &mut [u8]) -> usize {
+fn do_text(page: &[u16], space: &mut [u8], out: &mut Writer) {
     let Ok(len) = write_text(page, space) else {
-        return 0;
+        return;
     };
     let n = len.min(space.len());
-    let name = put(out, 0, b'T');
-    let count = put_number(out, name, len as u64, 2);
-    put_bytes(out, count, &space[..n])
+    put(out, b'T');
+    put_number(out, len as u64, 2);
+    put_bytes(out, &space[..n]);
 }
 
-fn do_view(state: State, out: &mut [u8]) -> usize {
-    let name = put(out, 0, b'V');
-    put_displays(out, name, state.displays)
+fn do_view(state: State, out: &mut Writer) {
+    put(out, b'V');
+    put_displays(out, state.displays);
 }
 
 fn do_parser(reader: &mut impl Read, state: State) -> io::Result<State> {
@@ -159,15 +155,15 @@ fn set_word(words: &mut [u16], at: u16, word: u16) {
     }
 }
 
-// The commands that change nothing. How many bytes of the answer were put.
+// The commands that change nothing.
 fn look<'a>(
     session: Session,
     command: Command,
     page: &'a [u16],
     line: &'a [u16],
     space: &mut [u8],
-    out: &mut [u8],
-) -> usize {
+    out: &mut Writer,
+) {
     let state = session.state;
     let words = session.words.min(page.len());
     let cells = session.cells.min(line.len());
@@ -180,7 +176,7 @@ fn look<'a>(
         b'D' => do_words(b'D', beside, out),
         b'T' => do_text(lent, space, out),
         b'V' => do_view(state, out),
-        _ => 0,
+        _ => {}
     }
 }
 
@@ -190,8 +186,8 @@ fn begin(
     command: Command,
     page: &mut [u16],
     line: &mut [u16],
-    out: &mut [u8],
-) -> usize {
+    out: &mut Writer,
+) {
     let words = (command.b as usize).min(page.len());
     let cells = session.cells.min(line.len());
     session.words = words;
@@ -202,7 +198,7 @@ fn begin(
         &mut page[..words],
         &mut line[..cells],
         out,
-    )
+    );
 }
 
 fn take(
@@ -212,8 +208,8 @@ fn take(
     line: &mut [u16],
     input: &[u8],
     reply: &mut [u8],
-    out: &mut [u8],
-) -> usize {
+    out: &mut Writer,
+) {
     let words = session.words.min(page.len());
     let cells = session.cells.min(line.len());
     let n = (command.a as usize).min(input.len());
@@ -225,7 +221,7 @@ fn take(
         &input[..n],
         &mut reply[..m],
         out,
-    )
+    );
 }
 
 // The commands that have no answer.
@@ -239,7 +235,7 @@ fn change(session: &mut Session, command: Command, page: &mut [u16], line: &mut 
     }
 }
 
-// How many bytes of the answer were put; none at the end of the script.
+// Whether the script goes on.
 fn carry(
     session: &mut Session,
     command: Command,
@@ -247,21 +243,17 @@ fn carry(
     line: &mut [u16],
     input: &mut [u8],
     reply: &mut [u8],
-    out: &mut [u8],
-) -> Option<usize> {
+    out: &mut Writer,
+) -> bool {
     match command.letter {
-        b'S' => Some(begin(session, command, page, line, out)),
-        b'F' => Some(take(session, command, page, line, input, reply, out)),
-        b'A' => Some(do_ask(&mut session.state, out)),
-        b'R' | b'O' | b'P' | b'D' | b'T' | b'V' => {
-            Some(look(*session, command, page, line, input, out))
-        }
-        b'L' | b'M' | b'B' | b'W' | b'I' => {
-            change(session, command, page, line);
-            Some(0)
-        }
-        _ => None,
+        b'S' => begin(session, command, page, line, out),
+        b'F' => take(session, command, page, line, input, reply, out),
+        b'A' => do_ask(&mut session.state, out),
+        b'R' | b'O' | b'P' | b'D' | b'T' | b'V' => look(*session, command, page, line, input, out),
+        b'L' | b'M' | b'B' | b'W' | b'I' => change(session, command, page, line),
+        _ => return false,
     }
+    true
 }
 
 // None where the input ends within the command.
@@ -284,7 +276,7 @@ fn read_input(reader: &mut impl Read, command: Command, input: &mut [u8]) -> io:
     Ok(())
 }
 
-// Reads what follows a command, and carries it out.
+// Reads what follows a command, and carries it out. Whether the script goes on.
 fn next(
     reader: &mut impl Read,
     session: &mut Session,
@@ -293,11 +285,11 @@ fn next(
     line: &mut [u16],
     input: &mut [u8],
     reply: &mut [u8],
-    out: &mut [u8],
-) -> io::Result<Option<usize>> {
+    out: &mut Writer,
+) -> io::Result<bool> {
     if command.letter == b'Q' {
         session.state = do_parser(reader, session.state)?;
-        return Ok(Some(0));
+        return Ok(true);
     }
     if command.letter == b'F' {
         read_input(reader, command, input)?;
@@ -313,7 +305,7 @@ fn carry_out(
     line: &mut [u16],
     input: &mut [u8],
     reply: &mut [u8],
-    out: &mut [u8],
+    out: &mut Writer,
 ) -> io::Result<()> {
     let mut session = Session {
         state: fresh(24),
@@ -324,10 +316,10 @@ fn carry_out(
         let Some(command) = read_command(reader)? else {
             break;
         };
-        let Some(end) = next(reader, &mut session, command, page, line, input, reply, out)? else {
+        if !next(reader, &mut session, command, page, line, input, reply, out)? {
             break;
-        };
-        flush(writer, out, end)?;
+        }
+        flush(writer, out)?;
     }
     writer.flush()
 }
@@ -337,7 +329,11 @@ fn main(rt: HostRuntime) -> io::Result<()> {
     let mut line = [0u16; 128];
     let mut input = [0u8; 65536];
     let mut reply = [0u8; 4096];
-    let mut out = [0u8; 65536];
+    let mut buffer = [0u8; 65536];
+    let mut out = Writer {
+        bytes: &mut buffer,
+        len: 0,
+    };
     let mut reader = rt.reader();
     let mut writer = io::writer(&rt);
     carry_out(

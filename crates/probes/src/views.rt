@@ -1,7 +1,7 @@
 // What V writes of a state, part by part.
 ghost use Rattle.std.specs.Prelude.{[], ◌∷◌};
 ghost use Rattle.cells.specs.Cells.{bit};
-ghost use Rattle.probes.specs.Output.{PutAt};
+ghost use Rattle.probes.specs.Output.{Put};
 ghost use Rattle.probes.specs.Views as views;
 
 use crate::output::{put, put_bytes};
@@ -10,21 +10,22 @@ use core_state::{Core, Displays, LineSaved, Modes, Saved, StatusLine};
 use device::charsets::Sets;
 use device::cursor::Cursor;
 use device::tabs::Tabs;
+use ground::writing::Writer;
 
-fn put_flag(out: &mut [u8], at: usize, on: bool) -> usize
-    ensures { PutAt out.old at (bit on ∷ []) out.new result }
+fn put_flag(out: &mut Writer, on: bool)
+    ensures { Put out.old (bit on ∷ []) out.new }
 {
-    put(out, at, u8::from(on))
+    put(out, u8::from(on));
 }
 
-fn put_cursor(out: &mut [u8], at: usize, cursor: Cursor) -> usize
-    ensures { PutAt out.old at (views.cursor_bytes cursor) out.new result }
+fn put_cursor(out: &mut Writer, cursor: Cursor)
+    ensures { Put out.old (views.cursor_bytes cursor) out.new }
 {
-    put_bytes(out, at, &[cursor.row, cursor.column, u8::from(cursor.wrap)])
+    put_bytes(out, &[cursor.row, cursor.column, u8::from(cursor.wrap)]);
 }
 
-fn put_modes(out: &mut [u8], at: usize, modes: Modes) -> usize
-    ensures { PutAt out.old at (views.mode_bytes modes) out.new result }
+fn put_modes(out: &mut Writer, modes: Modes)
+    ensures { Put out.old (views.mode_bytes modes) out.new }
 {
     let flags = [
         u8::from(modes.insert),
@@ -35,11 +36,11 @@ fn put_modes(out: &mut [u8], at: usize, modes: Modes) -> usize
         u8::from(modes.eightbit),
         u8::from(modes.rectangle),
     ];
-    put_bytes(out, at, &flags)
+    put_bytes(out, &flags);
 }
 
-fn put_rendition(out: &mut [u8], at: usize, rendition: Rendition) -> usize
-    ensures { PutAt out.old at (views.rendition_bytes rendition) out.new result }
+fn put_rendition(out: &mut Writer, rendition: Rendition)
+    ensures { Put out.old (views.rendition_bytes rendition) out.new }
 {
     let flags = [
         u8::from(rendition.bold),
@@ -47,11 +48,11 @@ fn put_rendition(out: &mut [u8], at: usize, rendition: Rendition) -> usize
         u8::from(rendition.blink),
         u8::from(rendition.reverse),
     ];
-    put_bytes(out, at, &flags)
+    put_bytes(out, &flags);
 }
 
-fn put_sets(out: &mut [u8], at: usize, sets: Sets) -> usize
-    ensures { PutAt out.old at (views.set_bytes sets) out.new result }
+fn put_sets(out: &mut Writer, sets: Sets)
+    ensures { Put out.old (views.set_bytes sets) out.new }
 {
     let numbers = [
         u8::from(sets.g0),
@@ -61,59 +62,59 @@ fn put_sets(out: &mut [u8], at: usize, sets: Sets) -> usize
         u8::from(sets.gl),
         u8::from(sets.gr),
     ];
-    put_bytes(out, at, &numbers)
+    put_bytes(out, &numbers);
 }
 
-fn put_saved(out: &mut [u8], at: usize, saved: Saved) -> usize
-    ensures { PutAt out.old at (views.saved_bytes saved) out.new result }
+fn put_saved(out: &mut Writer, saved: Saved)
+    ensures { Put out.old (views.saved_bytes saved) out.new }
 {
-    let rendition = put_cursor(out, at, saved.cursor);
-    let origin = put_rendition(out, rendition, saved.rendition);
-    let sets = put_flag(out, origin, saved.origin);
-    let protection = put_sets(out, sets, saved.sets);
-    let shifted = put_flag(out, protection, saved.protected);
-    put(out, shifted, u8::from(saved.shift))
+    put_cursor(out, saved.cursor);
+    put_rendition(out, saved.rendition);
+    put_flag(out, saved.origin);
+    put_sets(out, saved.sets);
+    put_flag(out, saved.protected);
+    put(out, u8::from(saved.shift));
 }
 
-fn put_tabs(out: &mut [u8], at: usize, tabs: Tabs) -> usize
-    ensures { PutAt out.old at tabs.flags out.new result }
+fn put_tabs(out: &mut Writer, tabs: Tabs)
+    ensures { Put out.old tabs.flags out.new }
 {
-    put_bytes(out, at, &tabs.flags)
+    put_bytes(out, &tabs.flags);
 }
 
 // R, the cursor, the margins, the modes.
-fn put_place(out: &mut [u8], at: usize, core: Core) -> usize
-    ensures { PutAt out.old at (views.place_bytes core) out.new result }
+fn put_place(out: &mut Writer, core: Core)
+    ensures { Put out.old (views.place_bytes core) out.new }
 {
-    let cursor = put(out, at, core.rows);
-    let top = put_cursor(out, cursor, core.cursor);
-    let bottom = put(out, top, core.margins.top);
-    let modes = put(out, bottom, core.margins.bottom);
-    put_modes(out, modes, core.modes)
+    put(out, core.rows);
+    put_cursor(out, core.cursor);
+    put(out, core.margins.top);
+    put(out, core.margins.bottom);
+    put_modes(out, core.modes);
 }
 
 // How the next character is written.
-fn put_writing(out: &mut [u8], at: usize, core: Core) -> usize
-    ensures { PutAt out.old at (views.writing_bytes core) out.new result }
+fn put_writing(out: &mut Writer, core: Core)
+    ensures { Put out.old (views.writing_bytes core) out.new }
 {
-    let protection = put_rendition(out, at, core.rendition);
-    let sets = put_flag(out, protection, core.protected);
-    let shifted = put_sets(out, sets, core.sets);
-    put(out, shifted, u8::from(core.shift))
+    put_rendition(out, core.rendition);
+    put_flag(out, core.protected);
+    put_sets(out, core.sets);
+    put(out, u8::from(core.shift));
 }
 
-fn put_core(out: &mut [u8], at: usize, core: Core) -> usize
-    ensures { PutAt out.old at (views.core_bytes core) out.new result }
+fn put_core(out: &mut Writer, core: Core)
+    ensures { Put out.old (views.core_bytes core) out.new }
 {
-    let writing = put_place(out, at, core);
-    let saved = put_writing(out, writing, core);
-    let tabs = put_saved(out, saved, core.saved);
-    put_tabs(out, tabs, core.tabs)
+    put_place(out, core);
+    put_writing(out, core);
+    put_saved(out, core.saved);
+    put_tabs(out, core.tabs);
 }
 
 // Whether there is a line and whether it is active, and its cursors.
-fn put_line_place(out: &mut [u8], at: usize, line: StatusLine, saved: LineSaved) -> usize
-    ensures { PutAt out.old at (views.line_place_bytes line saved) out.new result }
+fn put_line_place(out: &mut Writer, line: StatusLine, saved: LineSaved)
+    ensures { Put out.old (views.line_place_bytes line saved) out.new }
 {
     let place = [
         u8::from(line.present),
@@ -123,23 +124,23 @@ fn put_line_place(out: &mut [u8], at: usize, line: StatusLine, saved: LineSaved)
         saved.column,
         u8::from(saved.wrap),
     ];
-    put_bytes(out, at, &place)
+    put_bytes(out, &place);
 }
 
-fn put_line(out: &mut [u8], at: usize, line: StatusLine) -> usize
-    ensures { PutAt out.old at (views.line_bytes line) out.new result }
+fn put_line(out: &mut Writer, line: StatusLine)
+    ensures { Put out.old (views.line_bytes line) out.new }
 {
     let saved = line.saved;
-    let rendition = put_line_place(out, at, line, saved);
-    let sets = put_rendition(out, rendition, saved.rendition);
-    let protection = put_sets(out, sets, saved.sets);
-    let shifted = put_flag(out, protection, saved.protected);
-    put(out, shifted, u8::from(saved.shift))
+    put_line_place(out, line, saved);
+    put_rendition(out, saved.rendition);
+    put_sets(out, saved.sets);
+    put_flag(out, saved.protected);
+    put(out, u8::from(saved.shift));
 }
 
-pub fn put_displays(out: &mut [u8], at: usize, displays: Displays) -> usize
-    ensures { PutAt out.old at (views.view_bytes displays) out.new result }
+pub fn put_displays(out: &mut Writer, displays: Displays)
+    ensures { Put out.old (views.view_bytes displays) out.new }
 {
-    let line = put_core(out, at, displays.core);
-    put_line(out, line, displays.line)
+    put_core(out, displays.core);
+    put_line(out, displays.line);
 }

@@ -4,4 +4,4 @@ use Rattle.probes.proofs.OutputLaws.{Remaining}
 use Rattle.probes.proofs.output.put_bytes.Given as goal
 
 abbrev pub invariant-loop-byte : goal.invariant-loop-byte
-invariant-loop-byte l = Remaining l.initial.out l.at l.from l.out l.next (drop l.byte-index l.from)
+invariant-loop-byte l = Remaining l.initial.out l.from l.out (drop l.byte-index l.from)

@@ -5,4 +5,4 @@ use Rattle.probes.proofs.OutputLaws.{Remaining}
 use Rattle.probes.proofs.output.put_number.Given as goal
 
 abbrev pub invariant-loop : goal.invariant-loop
-invariant-loop l = Remaining l.initial.out l.at (low_first l.bytes l.n) l.out l.next (low_first (l.bytes - l.counter) l.rest)
+invariant-loop l = Remaining l.initial.out (low_first l.bytes l.n) l.out (low_first (l.bytes - l.counter) l.rest)

@@ -5,4 +5,4 @@ use Rattle.probes.proofs.OutputLaws.{Remaining}
 use Rattle.probes.proofs.output.put_words.Given as goal
 
 abbrev pub invariant-loop-word : goal.invariant-loop-word
-invariant-loop-word l = Remaining l.initial.out l.at (word_bytes l.from) l.out l.next (word_bytes (drop l.word-index l.from))
+invariant-loop-word l = Remaining l.initial.out (word_bytes l.from) l.out (word_bytes (drop l.word-index l.from))

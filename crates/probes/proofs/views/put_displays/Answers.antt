@@ -3,5 +3,4 @@ use Rattle.probes.proofs.OutputLaws.{put-more}
 use Rattle.probes.proofs.views.put_displays.Goals as goal
 
 pub returns : goal.returns
-returns c =
-    put-more c.put_core-line.ensures c.put_line.ensures
+returns c = search put-more

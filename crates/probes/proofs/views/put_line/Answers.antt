@@ -5,5 +5,5 @@ use Rattle.probes.proofs.views.put_line.Goals as goal
 pub returns : goal.returns
 returns c =
     let number = rw c.from.ensures at c.put.ensures in
-    let written = put-more (put-more c.put_line_place-rendition.ensures c.put_rendition-sets.ensures) c.put_sets-protection.ensures in
-    put-more (put-more written c.put_flag-shifted.ensures) number
+    let written = put-more (put-more c.put_line_place.ensures c.put_rendition.ensures) c.put_sets.ensures in
+    put-more (put-more written c.put_flag.ensures) number

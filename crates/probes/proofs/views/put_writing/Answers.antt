@@ -5,4 +5,4 @@ use Rattle.probes.proofs.views.put_writing.Goals as goal
 pub returns : goal.returns
 returns c =
     let number = rw c.from.ensures at c.put.ensures in
-    put-more (put-more (put-more c.put_rendition-protection.ensures c.put_flag-sets.ensures) c.put_sets-shifted.ensures) number
+    put-more (put-more (put-more c.put_rendition.ensures c.put_flag.ensures) c.put_sets.ensures) number
