@@ -75,27 +75,25 @@ fn dec_mode(mut core: Core, value: u16, on: bool) -> Core
 }
 
 // SM, RM: all parameters in order.
-pub fn set_ansi_modes(core: Core, params: Params, on: bool) -> Decision
+pub fn set_ansi_modes(mut core: Core, params: Params, on: bool) -> Decision
     ensures { result ≡ sequences.modes_set false on core params }
 {
     let values = &params.values[..params.count() as usize];
-    unedited(
-        values
-            .iter()
-            .fold(core, |core, value| ansi_mode(core, *value, on)),
-    )
+    for value in values {
+        core = ansi_mode(core, *value, on);
+    }
+    unedited(core)
 }
 
 // The same with ?.
-pub fn set_dec_modes(core: Core, params: Params, on: bool) -> Decision
+pub fn set_dec_modes(mut core: Core, params: Params, on: bool) -> Decision
     ensures { result ≡ sequences.modes_set true on core params }
 {
     let values = &params.values[..params.count() as usize];
-    unedited(
-        values
-            .iter()
-            .fold(core, |core, value| dec_mode(core, *value, on)),
-    )
+    for value in values {
+        core = dec_mode(core, *value, on);
+    }
+    unedited(core)
 }
 
 // ---- rendition and protection
