@@ -8,13 +8,14 @@ use native.Mathlib.Omega.{arith}
 use lib.Dec.{eqb}
 use lib.ListN.{length, get_or, take, drop, set, length-take, length-drop, length-map}
 use lib.Seq.{drop-drop, get_or-take, get_or-drop, ext_get_or}
+use Rattle.std.proofs.lemmas.List.{get_or-map, drop-map}
 use borrow.Author.Count.{below_more}
 use borrow.Author.Tests.{eq-eqb, ne_eqb, lt-ltb}
 use Rattle.cells.specs.declared.runs.Pen.{Pen}
 use Rattle.cells.specs.Segments.{Pasted}
 use Rattle.cells.specs.Runs.{is_character, pen_word, PenFits, Plain, BlockWords, PutSome}
 use Rattle.ground.specs.Tests.{between}
-use Rattle.ground.proofs.ListLaws.{split-lt, split-eq, get_d_map, drop-map}
+use Rattle.ground.proofs.ListLaws.{split-lt, split-eq}
 use Rattle.ground.proofs.TestLaws.{between-low, between-high, in_between}
 use Rattle.cells.proofs.Storing.{pasted-none, pasted-up, pasted-ext, pasted-join}
 
@@ -46,7 +47,7 @@ module _ (n : Pen) (F : PenFits n) where
       ext_get_or 0 _ _ (simp (length-take, length-map) (omega arith)) (λ j b.
       let l : j < k = omega (arith, simp length-take at b) in
       get_or-take k words j 0 l ∙ made j l ∙ sym (plain_word (get_or input (from + j) 0) (plain j l))
-      ∙ sym (get_or-take k (map (pen_word n) (drop from input)) j 0 l ∙ get_d_map (pen_word n) (drop from input) j (omega arith)
+      ∙ sym (get_or-take k (map (pen_word n) (drop from input)) j 0 l ∙ get_or-map (pen_word n) (drop from input) j 0 0 (omega arith)
       ∙ ap (pen_word n) (get_or-drop from input j 0))) in
       record { characters = λ j b. plain-character (get_or input (from + j) 0) (plain j b); pasted = pasted-ext _ P same }
 
@@ -79,7 +80,7 @@ put-more {input = input} {from = from} {n = n} {k = k} P w flag' h hi is ew ef =
     let has : k < length (map (pen_word n) (drop from input)) = rw length-map left in
     record {
       characters = below_more _ _ P.characters is;
-      pasted = pasted-up P.pasted w flag' h has (rw (get_d_map, get_or-drop) ew) ef;
+      pasted = pasted-up P.pasted w flag' h has (rw (get_or-map (pen_word n) (drop from input) k 0 0 left, get_or-drop) ew) ef;
     }
 
 -- where another byte stopped it, there is one at least if the first is a character

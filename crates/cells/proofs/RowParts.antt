@@ -7,8 +7,9 @@ use native.Mathlib.Nat.{add_assoc}
 use native.Mathlib.Omega.{arith}
 use lib.ListN.{length, take, drop, length-take, length-drop}
 use lib.Seq.{paste, length-paste, get_or-take, get_or-drop, ext_get_or}
+use Rattle.std.proofs.lemmas.List.{take-map}
 use Rattle.cells.specs.Rows.{row}
-use Rattle.ground.proofs.ListLaws.{split-lt, paste-outside, paste-inside, paste-is, take-map}
+use Rattle.ground.proofs.ListLaws.{split-lt, paste-outside, paste-inside, paste-is}
 use Rattle.cells.proofs.RowLaws.{length-row, cell-of-row, row-ext}
 
 -- part of a row is that part of the page

@@ -2,7 +2,7 @@
 use Rattle.std.proofs.Common.{◌≡◌, ℕ, ◌+◌, ◌-◌, ◌*◌, ◌^◌, ◌<◌, ◌≤◌, Bool, true, false, eqb, ltb, leb, List, [], ◌∷◌, map, length, get_or, sym, refl, ap, ◌∙◌, zero-add, arith, ltb-true, eqb-true, le-leb, leb-true}
 use lib.Bits.{bit_or}
 use lib.ListN.{length-map}
-use Rattle.ground.proofs.ListLaws.{get_d_map}
+use Rattle.std.proofs.lemmas.List.{get_or-map}
 use Rattle.ground.proofs.TestLaws.{and_left, between-high, at-number}
 use Rattle.cells.specs.declared.CharSet.TheVariants.{Ascii}
 use Rattle.cells.specs.Cells.{bit, packed}
@@ -179,7 +179,7 @@ module _ (t : Terminal) (e : plain t ≡ true) (input : List ℕ) (T : Taking t 
   unfolding state_of core_of
   word_at j h =
       let b = get_or input j 0 in
-      get_d_map (λ (b : ℕ). base_of t + b) input j h
+      get_or-map (λ (b : ℕ). base_of t + b) input j 0 0 h
       ∙ ascii-glyph c b left-ascii (between-high 0x20 b 0x7E (ascii-at input T.ascii j h))
       ∙ ap (λ (i : ℕ). glyph c (get_or input i 0)) (sym (zero-add j))
 

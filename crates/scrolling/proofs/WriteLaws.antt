@@ -10,9 +10,8 @@ use lib.Dec.{eqb}
 use lib.ListN.{length, get_or, take, drop, set, length-set, length-map, length-take, length-drop, take-append-drop}
 use lib.Seq.{paste, paste-zero, paste-suc, length-paste, take-suc}
 use borrow.Author.Tests.{ne_eqb}
-use Rattle.std.proofs.lemmas.List.{nil_from_length, take_all}
+use Rattle.std.proofs.lemmas.List.{nil_from_length, take_all, get_or-map}
 use Rattle.ground.specs.Tests.{between}
-use Rattle.ground.proofs.ListLaws.{get_d_map}
 use Rattle.ground.proofs.TestLaws.{either, or_cases, between-low}
 use Rattle.cells.specs.declared.runs.Pen.{Pen}
 use Rattle.cells.specs.declared.runs.Put.{Put as Run}
@@ -66,7 +65,7 @@ module _ (n : ℕ) (newline : Bool) (pen : Pen) (p : List ℕ) (r c : ℕ) (hp :
       length-paste p (80 * r + (c - 1)) (map (pen_word pen) ys) k (omega arith) (omega arith) ∙ hp in
       let place : 80 * r + (min (c + k) 80 - 1) ≡ 80 * r + (c - 1) + k = omega arith in
       let stored = put-set n q r (min (c + k) 80 - 1) (pen_word pen y) long few hr (omega arith)
-      ∙ ap₂ (set q) place (sym (get_d_map (pen_word pen) ys k h)) ∙ paste-suc p (80 * r + (c - 1)) (map (pen_word pen) ys) k 0 (omega arith) many in
+      ∙ ap₂ (set q) place (sym (get_or-map (pen_word pen) ys k 0 0 h)) ∙ paste-suc p (80 * r + (c - 1)) (map (pen_word pen) ys) k 0 (omega arith) many in
       rw (ne_eqb (get_or ys k 0) 0x0D (no-control y 0x0D is (omega arith)), ne_eqb (get_or ys k 0) 0x0A (no-control y 0x0A is (omega arith)))
       (ap₂ (λ (q : List ℕ) (d : ℕ). record { page = q; row = r; column = d }) stored (omega arith))
 

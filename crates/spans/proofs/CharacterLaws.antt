@@ -4,7 +4,8 @@ use mathlib.Core.Bool.{false≢true, and-false}
 use lib.Bits.{bit_or, or_zero_r, or_self}
 use lib.Seq.{paste, paste-zero}
 use borrow.Author.Tests.{lt-leb, not-true}
-use Rattle.ground.proofs.ListLaws.{split-lt, get_d_map}
+use Rattle.std.proofs.lemmas.List.{get_or-map}
+use Rattle.ground.proofs.ListLaws.{split-lt}
 use Rattle.ground.proofs.TestLaws.{and_left, and_right, or_cases, between-low, between-high}
 use Rattle.ground.specs.Tests.{between}
 use Rattle.cells.specs.Cells.{bit}
@@ -300,6 +301,6 @@ module _ (c : Core) (n : ℕ) (p input : List ℕ) (from : ℕ) (s : List ℕ) (
 pub words-glyphs : (c : Core) (pen : Pen) (input : List ℕ) (from : ℕ) → prints_directly c ≡ true → pen ≡ pen_of c.rendition c.protected c.sets
     → (k : ℕ) → from + k ≤ length input → (j : ℕ) → j < k → get_or (map (pen_word pen) (drop from input)) j 0 ≡ glyph c (get_or input (from + j) 0)
 words-glyphs c pen input from plain is k h j l =
-    get_d_map (pen_word pen) (drop from input) j (simp length-drop (omega arith))
+    get_or-map (pen_word pen) (drop from input) j 0 0 (simp length-drop (omega arith))
     ∙ ap (pen_word pen) (get_or-drop from input j 0)
     ∙ ap (λ (x : Pen). pen_word x (get_or input (from + j) 0)) is ∙ pen-glyph c (get_or input (from + j) 0) (no_shift c plain)
