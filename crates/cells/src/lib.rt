@@ -1,7 +1,8 @@
-// What a cell holds, as a word, and what becomes of it; segments of words; sets of rows.
+// What a cell holds, as a word, and what becomes of it; segments of words; rows; sets of rows.
 #![tactic(auto)]
 
 pub mod marks;
+pub mod rows;
 pub mod runs;
 pub mod segments;
 pub mod words;

@@ -38,6 +38,7 @@ pub fn start(rows: usize, page: &mut [u16], line: &mut [u16]) -> Result<State, R
     ensures { starting.start_told result (buffers page.new line.new)
         ≡ starting.started rows (buffers page.old line.old) }
 {
+    // (`is_sized` takes a u8: with it the conversion, which can fail, would need a refusal of its own.)
     if !matches!(rows, 24 | 36 | 48) {
         return Err(Refusal::Broken);
     }

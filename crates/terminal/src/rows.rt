@@ -1,11 +1,11 @@
 // Reading a row: the part of whichever display is active that holds it.
-ghost use Rattle.std.specs.Prelude.{◌≡◌, ◌+◌, ◌*◌, ◌≤◌, length, if◌then◌else◌};
-ghost use Rattle.cells.specs.Rows.{row as row_of};
+ghost use Rattle.std.specs.Prelude.{◌≡◌, if◌then◌else◌};
 ghost use Rattle.steps.specs.Steps.{buffers};
 ghost use Rattle.terminal.specs.Row.{active_rows, row_told, row_read};
 
 use crate::Refusal;
 use crate::whole::check;
+use cells::rows::row_of;
 use steps::State;
 
 // How many rows the active display has.
@@ -28,15 +28,6 @@ fn active<'a>(second: bool, page: &'a [u16], line: &'a [u16]) -> &'a [u16]
     page
 }
 
-// A row's cells, the row counted from 0.
-fn cells_of(cells: &[u16], row: usize) -> &[u16]
-    requires { 80 * row + 80 ≤ length cells.now }
-    ensures { result.now ≡ row_of cells.now row }
-{
-    let from = 80 * row;
-    &cells[from..from + 80]
-}
-
 // Reads a row of the active display, counted from 1: its 80 cells, where they lie in page or line.
 pub fn row<'a>(
     state: State,
@@ -49,7 +40,7 @@ pub fn row<'a>(
     check(state, page, line)?;
     if (1 <= row) & (row <= active_rows(state)) {
         let cells = active(state.displays.line.active, page, line);
-        Ok(cells_of(cells, row - 1))
+        Ok(row_of(cells, row - 1))
     } else {
         Err(Refusal::OffPage)
     }

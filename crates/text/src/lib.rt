@@ -5,12 +5,12 @@ mod lines;
 mod signs;
 mod utf8;
 
-ghost use Rattle.std.specs.Prelude.{◌≡◌, ◌+◌, ◌*◌, ◌≤◌, length};
-ghost use Rattle.cells.specs.Rows.{row};
+ghost use Rattle.std.specs.Prelude.{◌≡◌, ◌≤◌, length};
 ghost use Rattle.text.specs.Text.{page_text, written_number, written};
 ghost use Rattle.ground.specs.Writes.{Wrote};
 
 use crate::lines::{line_len, write_line};
+use cells::rows::row_of;
 use ground::writing::Writer;
 use std::error::Error;
 use std::fmt;
@@ -26,14 +26,6 @@ impl fmt::Display for TooSmall {
 }
 
 impl Error for TooSmall {}
-
-// A row of a page, counted from 0.
-fn row_of(page: &[u16], k: usize) -> &[u16]
-    requires { 80 * k + 80 ≤ length page.now }
-    ensures { result.now ≡ row page.now k }
-{
-    &page[80 * k..80 * k + 80]
-}
 
 // How many bytes the text of a page takes. Cells past its last whole row do not count.
 pub fn text_len(page: &[u16]) -> usize

@@ -11,7 +11,7 @@ pub returns-then-row-active_rows : goal.returns-then-row-active_rows
 unfolding row_read
 returns-then-row-active_rows c =
     let w = passed _ _ tt c.in_ok-check.ensures in
-    rw (w.whole, w.sizes, ← c.active_rows.ensures, c.if-row-active_rows.true, c.cells_of.ensures, c.active-cells.ensures)
+    rw (w.whole, w.sizes, ← c.active_rows.ensures, c.if-row-active_rows.true, c.row_of.ensures, c.active-cells.ensures)
 
 pub returns-else-row-active_rows : goal.returns-else-row-active_rows
 unfolding row_read
