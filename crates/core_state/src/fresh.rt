@@ -63,6 +63,8 @@ pub fn fresh_saved() -> Saved
     }
 }
 
+// Never inlined: resets are rare, and in the loop over bytes its fields cost each byte a few instructions.
+#[inline(never)]
 #[tactic(auto, unfolding(crate::specs::Fresh::fresh_core))]
 pub fn fresh_core(rows: u8) -> Core
     ensures { result ≡ fresh_core rows }
