@@ -17,13 +17,7 @@ pub struct AfterByte {
 }
 
 // Its step or steps, after which its rows are joined to those that changed before. `byte` is there for the promise alone.
-pub fn step(
-    mut core: Core,
-    changed: u64,
-    byte: u8,
-    decoded: Decoded,
-    page: &mut [u16],
-) -> AfterByte
+pub fn step(mut core: Core, changed: u64, byte: u8, decoded: Decoded, page: &mut [u16]) -> AfterByte
     requires { Paged core page.old × (decoded ≡ decode core.parser byte) }
     ensures { display result.core page.new result.changed ≡ acts (display core page.old changed) byte }
 {
