@@ -36,7 +36,8 @@ fn puts_ascii(terminal: Terminal) -> bool
         & (terminal.sets.gl == 0)
 }
 
-// A few characters that leave the cursor in its row with no wrap due.
+// A few characters that leave the cursor in its row with no wrap due. (Not inlined, for the stack that a call takes.)
+#[inline(never)]
 pub fn takes(terminal: Terminal, input: &[u8]) -> bool
     ensures { result ≡ takes_in_place terminal input.now }
 {

@@ -1,5 +1,6 @@
 // Rows: columns of one row, and of a block of rows. Each function that writes hands back the bits of
-// the rows that it changed; one that is told the rows that are known to have changed adds its own to them.
+// the rows that it changed; one that is told the rows that are known to have changed adds its own to them. Those that move rows are
+// inlined, for the stack that a call takes.
 ghost use Rattle.std.specs.Prelude.{◌⊎◌, ◌≡◌, ◌+◌, ◌-◌, ◌*◌, ◌≤◌, eqb, length, drop, replicate};
 ghost use Rattle.std.proofs.Math.Seq.{paste};
 ghost use Rattle.cells.specs.Rows.{row};
@@ -71,6 +72,7 @@ fn move_row(page: &mut [u16], to: u8, from: u8, left: u8, right: u8, column: u8,
 
 // The same of a row above, with `gap` rows between the two. Of a whole row `COLUMNS` stands beside the gap, so
 // that it sees that the two never overlap.
+#[inline(always)]
 fn lower_row(page: &mut [u16], to: u8, gap: u8, left: u8, right: u8, column: u8, known: u64) -> u64
     requires { BlockFits page.old to (to + 1) left right × (gap + 1 ≤ to) × (column + (right - left) ≤ 80) }
     ensures { RedoneOver page.old page.new (λ j. eqb j to)
@@ -121,6 +123,7 @@ pub fn fill_row(page: &mut [u16], at: u8, left: u8, right: u8, word: u16, known:
 }
 
 // Columns `left` to `right` of row `at` change by what they hold.
+#[inline(always)]
 pub fn change_row(page: &mut [u16], at: u8, left: u8, right: u8, change: CellChange) -> u64
     requires { BlockFits page.old at (at + 1) left right }
     ensures { Redone page.old page.new (λ j. eqb j at)
@@ -135,6 +138,7 @@ pub fn change_row(page: &mut [u16], at: u8, left: u8, right: u8, change: CellCha
 // its calls be as long as these)
 
 // Its rows become as many of the rows `count` below, from `column` on.
+#[inline(always)]
 pub fn raise_rows(page: &mut [u16], block: Block, count: u8, column: u8, known: u64) -> u64
     requires { BlockFits page.old block.top (block.end + count) block.left block.right × (block.top ≤ block.end)
         × (column + (block.right - block.left) ≤ 80) × (block.left ≤ column + 80 * count) }
@@ -149,6 +153,7 @@ pub fn raise_rows(page: &mut [u16], block: Block, count: u8, column: u8, known: 
 }
 
 // They become as many of the rows `count` above.
+#[inline(always)]
 pub fn lower_rows(page: &mut [u16], block: Block, count: u8, column: u8, known: u64) -> u64
     requires { OnPage page.old block × (count ≤ block.top) × (column + (block.right - block.left) ≤ 80) × (count ≡ 0 → column ≡ block.left) }
     ensures { RedoneOver page.old page.new (in_range block.top block.end)

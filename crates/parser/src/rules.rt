@@ -80,7 +80,8 @@ fn escape_rule(x: u8) -> Transition
     to(Phase::Ground, Op::EscDispatch)
 }
 
-// 20 to 7E in a sequence. In the other phases no byte is read by this rule.
+// 20 to 7E in a sequence. In the other phases no byte is read by this rule. (Inlined, for the stack that a call takes.)
+#[inline(always)]
 pub fn sequence_rule(phase: Phase, x: u8) -> Transition
     requires { x < 128 }
     ensures { result ≡ parsing.sequence_rule phase x }
