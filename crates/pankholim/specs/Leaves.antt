@@ -15,6 +15,7 @@ use Rattle.record.specs.declared.Terminal.{Terminal}
 use Rattle.record.specs.Numbers.{flag_number}
 use Rattle.record.specs.Record.{state_of, record_of}
 use Rattle.pankholim.specs.declared.by_value.Fed.{Fed}
+use Rattle.pankholim.specs.declared.by_value.Asked.{Asked}
 
 -- the record that a call leaves: refused, as it came, else that of the state returned
 abbrev pub record_left : Terminal → Answer → State → Terminal
@@ -52,6 +53,11 @@ pub record AskLeaves (t : Terminal) (d : Ask) (r : ℕ) (terminal : Terminal) (c
   pub changed-is : changed ≡ d.result.rows
   pub count-is : count ≡ d.result.count
   pub flag_is : flag ≡ flag_number d.result.flag
+
+-- the same, of what the asking by value returns: refused, the record is left, and nothing is told
+abbrev pub AskGives : Terminal → Ask → Result Asked Refusal → Type 0
+AskGives t d (Ok a) = AskLeaves t d (number Done) a.terminal a.rows a.count a.flag
+AskGives t d (Err e) = AskLeaves t d (number (answer_of e)) t 0 0 0
 
 -- d is `cell_read` of a record's state, a page, a row and a column; the number returned, and the word at exit
 pub record ReadLeaves (d : Read) (r word : ℕ) : Type 0 where

@@ -1,21 +1,24 @@
-// Feeding and reading a record that is passed by value: what a feeding leaves of it is returned.
+// The calls on a record that is passed by value: what a feeding or an asking leaves of it is returned.
 ghost use Rattle.std.specs.Prelude.{◌≡◌};
 ghost use Rattle.steps.specs.Steps.{buffers};
 ghost use Rattle.terminal.specs.Answers.{whole_checked};
 ghost use Rattle.terminal.specs.Feed.{fed};
+ghost use Rattle.terminal.specs.Ask.{asked};
 ghost use Rattle.terminal.specs.Read.{read_told, cell_read};
+ghost use Rattle.terminal.specs.CursorRead.{cursor_told, cursor_read};
 ghost use Rattle.record.specs.Record.{state_of, state_with};
 ghost use Rattle.pankholim.specs.Leaves as leaving;
 
+use cells::marks::count_rows;
 use inplace::parsing::{steered, steers};
 use inplace::{moved, put_in_place, takes};
 use record::Terminal;
-use record::from_state::record_of;
+use record::from_state::{emptied, record_of};
 use record::plain::is_plain;
 use record::to_state::{named, state_of, state_with};
 use steps::State;
 use terminal::whole::check_whole;
-use terminal::{Refusal, calls};
+use terminal::{CursorRead, Refusal, Refused, calls};
 
 // The record that a feeding leaves, how many bytes of the input were read, how many were written to the reply buffer, and
 // whether reading stopped before a reply that does not fit.
@@ -25,6 +28,15 @@ pub struct Fed {
     pub read: usize,
     pub replied: usize,
     pub full: bool,
+}
+
+// The record that an asking leaves, the changed rows, how many they are, and the line's flag.
+#[derive(Clone, Copy)]
+pub struct Asked {
+    pub terminal: Terminal,
+    pub rows: u64,
+    pub count: u32,
+    pub flag: u8,
 }
 
 // Refused unless the record is that of a whole state, where `state` has all its numbers.
@@ -89,12 +101,55 @@ pub fn feed(
     })
 }
 
+// A plain record is asked and emptied as it lies.
+pub fn ask(terminal: Terminal) -> Result<Asked, Refusal>
+    ensures { leaving.AskGives terminal (asked (state_of terminal)) result }
+{
+    if is_plain(terminal) {
+        return Ok(Asked {
+            terminal: emptied(terminal),
+            rows: terminal.changed,
+            count: count_rows(terminal.changed),
+            flag: terminal.flag,
+        });
+    }
+    match calls::ask(state_of(terminal)) {
+        Ok(asked) => Ok(Asked {
+            terminal: record_of(asked.state),
+            rows: asked.rows,
+            count: asked.count,
+            flag: u8::from(asked.flag),
+        }),
+        Err(refused) => Err(refused.refusal),
+    }
+}
+
 // Of a plain record the rows are known.
-pub fn read(terminal: Terminal, page: &[u16], row: usize, column: usize) -> Result<u16, Refusal>
+pub fn read(
+    terminal: Terminal,
+    page: &[u16],
+    row: usize,
+    column: usize,
+) -> Result<u16, Refused<u16>>
     ensures { read_told result ≡ cell_read (state_of terminal) page.now row column }
 {
     if is_plain(terminal) {
         return calls::read_cell(terminal.rows, page, row, column);
     }
     calls::read(state_of(terminal), page, row, column)
+}
+
+// A plain record is told of as it lies.
+pub fn cursor(terminal: Terminal) -> Result<CursorRead, Refused<CursorRead>>
+    ensures { cursor_told result ≡ cursor_read (state_of terminal) }
+{
+    if is_plain(terminal) {
+        return Ok(CursorRead {
+            row: terminal.cursor.row,
+            column: terminal.cursor.column,
+            wrap: terminal.cursor.wrap == 1,
+            shown: terminal.modes.shown == 1,
+        });
+    }
+    calls::cursor(state_of(terminal))
 }

@@ -17,13 +17,10 @@ ghost use Rattle.record.specs.Record.{state_of};
 ghost use Rattle.pankholim.specs.Leaves.{StartLeaves, FeedLeaves, AskLeaves, ReadLeaves, RowLeaves, CursorLeaves, WriteLeaves};
 ghost use Rattle.pankholim.specs.Version.{version};
 
-use cells::BLANK;
-use cells::marks::count_rows;
 use record::Terminal;
-use record::from_state::{emptied, record_of};
-use record::plain::is_plain;
+use record::from_state::record_of;
 use record::to_state::state_of;
-use terminal::answers::{DONE, NO_ROOM};
+use terminal::answers::{DONE, NO_ROOM, fitting, number, returned};
 use terminal::{calls, rows};
 use text::{text_len, write_text};
 
@@ -56,7 +53,7 @@ pub fn pankholim_start(
             *terminal = record_of(state);
             DONE
         }
-        Err(refusal) => refusal.into(),
+        Err(refused) => refused.refusal.into(),
     }
 }
 
@@ -79,7 +76,7 @@ pub fn pankholim_feed(
             *terminal = fed.terminal;
             *read = fed.read;
             *replied = fed.replied;
-            if fed.full { NO_ROOM } else { DONE }
+            fitting(fed.full)
         }
         Err(refusal) => {
             *read = 0;
@@ -89,8 +86,7 @@ pub fn pankholim_feed(
     }
 }
 
-// Asks for the changed rows, and whether the line changed; empties the set and clears the line's flag. A plain record is
-// asked and emptied as it lies.
+// Asks for the changed rows, and whether the line changed; empties the set and clears the line's flag.
 pub fn pankholim_ask(
     terminal: &mut Terminal,
     changed: &mut u64,
@@ -100,19 +96,12 @@ pub fn pankholim_ask(
     ensures { AskLeaves terminal.old (asked (state_of terminal.old))
         result terminal.new changed.new count.new flag.new }
 {
-    if is_plain(*terminal) {
-        *changed = terminal.changed;
-        *count = count_rows(terminal.changed);
-        *flag = terminal.flag;
-        *terminal = emptied(*terminal);
-        return DONE;
-    }
-    match calls::ask(state_of(*terminal)) {
+    match by_value::ask(*terminal) {
         Ok(asked) => {
-            *terminal = record_of(asked.state);
+            *terminal = asked.terminal;
             *changed = asked.rows;
             *count = asked.count;
-            *flag = u8::from(asked.flag);
+            *flag = asked.flag;
             DONE
         }
         Err(refusal) => {
@@ -134,16 +123,9 @@ pub fn pankholim_read(
 ) -> u8
     ensures { ReadLeaves (cell_read (state_of terminal.now) page.now row column) result word.new }
 {
-    match by_value::read(*terminal, page, row, column) {
-        Ok(read) => {
-            *word = read;
-            DONE
-        }
-        Err(refusal) => {
-            *word = BLANK;
-            refusal.into()
-        }
-    }
+    let read = by_value::read(*terminal, page, row, column);
+    *word = returned(read);
+    number(read)
 }
 
 // Reads a row of the active display, counted from 1: `part` is its 80 cells, where they lie in page or line, or none where
@@ -157,16 +139,9 @@ pub fn pankholim_row<'a>(
 ) -> u8
     ensures { RowLeaves (row_read (state_of terminal) (buffers page.now line.now) row) result part.new.now }
 {
-    match rows::row(state_of(terminal), page, line, row) {
-        Ok(cells) => {
-            *part = cells;
-            DONE
-        }
-        Err(refusal) => {
-            *part = &page[..0];
-            refusal.into()
-        }
-    }
+    let cells = rows::row(state_of(terminal), page, line, row);
+    *part = returned(cells);
+    number(cells)
 }
 
 // Reads the page's cursor: its row and column, counted from 1, whatever origin mode says, whether a
@@ -181,29 +156,13 @@ pub fn pankholim_cursor(
     ensures { CursorLeaves (cursor_read (state_of terminal.now))
         result row.new column.new wrap.new shown.new }
 {
-    if is_plain(*terminal) {
-        *row = terminal.cursor.row as usize;
-        *column = terminal.cursor.column as usize;
-        *wrap = terminal.cursor.wrap;
-        *shown = terminal.modes.shown;
-        return DONE;
-    }
-    match calls::cursor(state_of(*terminal)) {
-        Ok(cursor) => {
-            *row = cursor.row as usize;
-            *column = cursor.column as usize;
-            *wrap = u8::from(cursor.wrap);
-            *shown = u8::from(cursor.shown);
-            DONE
-        }
-        Err(refusal) => {
-            *row = 0;
-            *column = 0;
-            *wrap = 0;
-            *shown = 0;
-            refusal.into()
-        }
-    }
+    let read = by_value::cursor(*terminal);
+    let cursor = returned(read);
+    *row = cursor.row as usize;
+    *column = cursor.column as usize;
+    *wrap = u8::from(cursor.wrap);
+    *shown = u8::from(cursor.shown);
+    number(read)
 }
 
 // How many bytes the text of a page takes.

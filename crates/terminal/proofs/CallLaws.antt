@@ -15,13 +15,15 @@ use Rattle.feeding.specs.declared.bytes.FedBytes.{FedBytes}
 use Rattle.feeding.specs.Bytes.{Feeding, read_count, bytes_fed}
 use Rattle.std.specs.Prelude.{Result, Ok, Err, IsOk}
 use Rattle.terminal.specs.declared.Refusal.{Refusal}
+use Rattle.terminal.specs.declared.Refused.{Refused}
 use Rattle.terminal.specs.declared.Refusal.TheVariants as R
 use Rattle.terminal.specs.Answers.{Answer, Done, Broken, WrongSize, NoRoom, OffPage, number, refusal, answer_of, whole_checked, sizes_checked, checked}
 use Rattle.steps.specs.Whole.{right_size, right_sizes, whole_state, WholeState}
 use Rattle.terminal.specs.Start.{start_answer, start_gives, started}
 use Rattle.terminal.specs.Feed.{Feed, fitting, feed_as, feed_told, feed_first, feed_refused, feed_gives, fed, Untouched}
 pub use Rattle.terminal.specs.Feed.{Taken}
-use Rattle.terminal.specs.Ask.{ask_done, ask_refused, asked}
+use Rattle.terminal.specs.declared.Asked.{Asked as Report}
+use Rattle.terminal.specs.Ask.{Ask, ask_done, ask_refused, ask_told, asked}
 use Rattle.terminal.specs.Read.{on_page, read_answer, read_gives, cell_read}
 use Rattle.terminal.specs.Row.{active_rows, active_cells, row_answer, row_gives, row_told, row_read}
 
@@ -148,10 +150,10 @@ pub fed-accepted : (s : State) (p : Buffers) (i o : List ℕ) → Taken s p → 
 fed-accepted s p i o w = rw (fed-processed s p i o w.whole w.sizes) (fitting-refusal (ltb (read_count s i o) (length i)))
 
 -- so its call is `Ok`
-pub fed-ok : (s : State) (p : Buffers) (i o : List ℕ) (r : Result FedBytes Refusal) (q : Buffers) (o' : List ℕ) → Taken s p
-    → feed_told s r q o' ≡ fed s p i o → IsOk r
+pub fed-ok : (s : State) (p : Buffers) (i o : List ℕ) (r : Result FedBytes (Refused FedBytes)) (q : Buffers) (o' : List ℕ) → Taken s p
+    → feed_told r q o' ≡ fed s p i o → IsOk r
 fed-ok s p i o (Ok f) q o' w e = refl
-fed-ok s p i o (Err x) q o' w e = absurd (true≢false (sym (refusing x) ∙ ap (λ (f : Feed). refusal f.result.answer) e ∙ fed-accepted s p i o w))
+fed-ok s p i o (Err x) q o' w e = absurd (true≢false (sym (refusing x.refusal) ∙ ap (λ (f : Feed). refusal f.result.answer) e ∙ fed-accepted s p i o w))
 
 pub fitting-number : (t : Bool) → number (cond t NoRoom Done) ≡ cond t 3 0
 fitting-number true = refl
@@ -190,6 +192,16 @@ asked-done s e = rw e
 pub asked-broken : (s : State) → whole_state s ≡ false → asked s ≡ ask_refused Broken s
 unfolding asked
 asked-broken s e = rw e
+
+-- one that is refused returns what it was given
+pub asked-refused : (s : State) (e : Refused Report) → ask_told (Err e) ≡ asked s → asked s ≡ ask_refused (answer_of e.refusal) s
+asked-refused s e h = go (whole_state s) refl
+  where
+    go : (t : Bool) → whole_state s ≡ t → asked s ≡ ask_refused (answer_of e.refusal) s
+    go true w = absurd (true≢false (sym (refusing e.refusal) ∙ ap (λ (d : Ask). refusal d.result.answer) (h ∙ asked-done s w)))
+    go false w =
+        let is : answer_of e.refusal ≡ Broken = ap (λ (d : Ask). d.result.answer) (h ∙ asked-broken s w) in
+        rw (is, asked-broken s w)
 
 pub asked-whole : (s : State) → refusal (asked s).result.answer ≡ false → whole_state s ≡ true
 asked-whole s h = go (whole_state s) refl
@@ -232,9 +244,10 @@ pub row_as : (s : State) (p : Buffers) (r : ℕ) (a : Answer) → row_answer s p
 unfolding row_read
 row_as s p r a e = ap (λ (x : Answer). row_gives x s p r) e
 
-pub row-told-refused : (s : State) (p : Buffers) (r : ℕ) (e : Refusal) → Err e ≡ checked s p → row_told (Err e) ≡ row_read s p r
+pub row-refused : (s : State) (p : Buffers) (r : ℕ) (e : Refusal) → Err e ≡ checked s p
+    → record { number = number (answer_of e); cells = [] } ≡ row_read s p r
 unfolding row_read
-row-told-refused s p r e h = refused-cases s p e h (λ w is. rw (is, w)) (λ w n is. rw (is, w, n))
+row-refused s p r e h = refused-cases s p e h (λ w is. rw (is, w)) (λ w n is. rw (is, w, n))
 
 -- ---- the start
 

@@ -2,6 +2,7 @@
 use Rattle.std.specs.Prelude.{ℕ, Bool, true, false, cond, Result, Ok, Err}
 use Rattle.terminal.specs.declared.Refusal.{Refusal}
 use Rattle.terminal.specs.declared.Refusal.TheVariants as R
+use Rattle.terminal.specs.declared.Refused.{Refused}
 use Rattle.steps.specs.declared.State.{State}
 use Rattle.steps.specs.Steps.{Buffers}
 use Rattle.steps.specs.Whole.{whole_state, right_sizes}
@@ -30,11 +31,21 @@ refusal WrongSize = true
 refusal NoRoom = false
 refusal OffPage = true
 
--- the answer that an `Err` of a call is
+-- the answer that a refusal is
 abbrev pub answer_of : Refusal → Answer
 answer_of R.Broken = Broken
 answer_of R.WrongSize = WrongSize
 answer_of R.OffPage = OffPage
+
+-- the answer of a call that is no feeding
+abbrev pub answered : {T : Type 0} → Result T (Refused T) → Answer
+answered (Ok x) = Done
+answered (Err e) = answer_of e.refusal
+
+-- what a call returns, refused or not
+abbrev pub returned : {T : Type 0} → Result T (Refused T) → T
+returned (Ok x) = x
+returned (Err e) = e.returned
 
 -- ---- the tests before a call
 

@@ -1,10 +1,10 @@
 -- Asking for the changed rows: the set, how many rows are in it, the line's flag, and the state with the set emptied and the flag cleared.
-use Rattle.std.specs.Prelude.{ℕ, Bool, false, cond, Result, Ok, Err}
+use Rattle.std.specs.Prelude.{ℕ, Bool, false, cond, Result}
 use Rattle.cells.specs.Sets.{size_of, has_bit}
 use Rattle.steps.specs.declared.State.{State}
 use Rattle.terminal.specs.declared.Asked.{Asked as Report}
-use Rattle.terminal.specs.declared.Refusal.{Refusal}
-use Rattle.terminal.specs.Answers.{Answer, Done, Broken, WrongSize, NoRoom, OffPage, number, answer_of}
+use Rattle.terminal.specs.declared.Refused.{Refused}
+use Rattle.terminal.specs.Answers.{Answer, Done, Broken, WrongSize, NoRoom, OffPage, number, answered, returned}
 use Rattle.steps.specs.Whole.{whole_state}
 
 -- the answer, the changed rows, how many they are, the line's flag, and the state
@@ -48,7 +48,6 @@ ask_gives OffPage s = ask_refused OffPage s
 unfoldable pub asked : State → Ask
 asked s = ask_gives (ask_answer s) s
 
--- what was returned, of a state as it came, as the definition has it
-abbrev pub ask_told : State → Result Report Refusal → Ask
-ask_told s (Ok a) = ask_as Done a.rows a.count a.flag a.state
-ask_told s (Err e) = ask_refused (answer_of e) s
+-- what was returned, as the definition has it
+abbrev pub ask_told : Result Report (Refused Report) → Ask
+ask_told r = let a = returned r in ask_as (answered r) a.rows a.count a.flag a.state

@@ -1,10 +1,10 @@
 -- Reading the cursor: its row and column on the page, counted from 1, whatever origin mode says, whether a wrap is due, and whether it is
 -- shown. Refused, row 0 and column 0, and neither.
-use Rattle.std.specs.Prelude.{ℕ, Bool, false, cond, Result, Ok, Err}
+use Rattle.std.specs.Prelude.{ℕ, Bool, false, cond, Result}
 use Rattle.steps.specs.declared.State.{State}
 use Rattle.terminal.specs.declared.CursorRead.{CursorRead as CursorFound}
-use Rattle.terminal.specs.declared.Refusal.{Refusal}
-use Rattle.terminal.specs.Answers.{Answer, Done, Broken, WrongSize, NoRoom, OffPage, number, answer_of}
+use Rattle.terminal.specs.declared.Refused.{Refused}
+use Rattle.terminal.specs.Answers.{Answer, Done, Broken, WrongSize, NoRoom, OffPage, number, answered, returned}
 use Rattle.steps.specs.Whole.{whole_state}
 
 -- the answer, and what is told of the cursor
@@ -47,6 +47,5 @@ unfoldable pub cursor_read : State → CursorReading
 cursor_read s = cursor_gives (cursor_answer s) s
 
 -- what was returned, as the definition has it
-abbrev pub cursor_told : Result CursorFound Refusal → CursorReading
-cursor_told (Ok c) = cursor_as Done c.row c.column c.wrap c.shown
-cursor_told (Err e) = cursor_refused (answer_of e)
+abbrev pub cursor_told : Result CursorFound (Refused CursorFound) → CursorReading
+cursor_told r = let c = returned r in cursor_as (answered r) c.row c.column c.wrap c.shown

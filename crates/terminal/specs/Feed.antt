@@ -2,8 +2,8 @@
 use Rattle.std.specs.Prelude.{◌≡◌, ℕ, true, cond, List, length, take, nat_lt, Result, Ok, Err}
 use Rattle.std.proofs.lemmas.List.Edits.{sets}
 use Rattle.steps.specs.declared.State.{State}
-use Rattle.terminal.specs.declared.Refusal.{Refusal}
-use Rattle.terminal.specs.Answers.{Answer, Done, Broken, WrongSize, NoRoom, OffPage, number, answer_of}
+use Rattle.terminal.specs.declared.Refused.{Refused}
+use Rattle.terminal.specs.Answers.{Answer, Done, Broken, WrongSize, NoRoom, OffPage, number, answer_of, returned}
 use Rattle.steps.specs.Steps.{Buffers, screen, ran, sent}
 use Rattle.feeding.specs.declared.bytes.FedBytes.{FedBytes}
 use Rattle.feeding.specs.Bytes.{read_count}
@@ -71,7 +71,11 @@ pub record Taken (s : State) (p : Buffers) : Type 0 where
   pub whole : whole_state s ≡ true
   pub sizes : right_sizes s.displays.core.rows p ≡ true
 
--- what was returned, of a state as it came, and what is left, as the definition has it
-abbrev pub feed_told : State → Result FedBytes Refusal → Buffers → List ℕ → Feed
-feed_told s (Ok f) q o = feed_as (cond f.full NoRoom Done) f.read f.replied f.state q o
-feed_told s (Err e) q o = feed_refused (answer_of e) s q o
+-- the answer of a feeding that is refused, or else of one that stopped before a reply or did not
+abbrev pub feed_answered : Result FedBytes (Refused FedBytes) → Answer
+feed_answered (Ok f) = cond f.full NoRoom Done
+feed_answered (Err e) = answer_of e.refusal
+
+-- what was returned, and what is left, as the definition has it
+abbrev pub feed_told : Result FedBytes (Refused FedBytes) → Buffers → List ℕ → Feed
+feed_told r q o = let f = returned r in feed_as (feed_answered r) f.read f.replied f.state q o

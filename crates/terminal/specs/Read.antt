@@ -1,10 +1,10 @@
 -- Reading a cell by its row and column, counted from 1. Refused, a blank one.
-use Rattle.std.specs.Prelude.{ℕ, ◌+◌, ◌-◌, ◌*◌, Bool, cond, ◌&&◌, List, slice_index, Result, Ok, Err}
+use Rattle.std.specs.Prelude.{ℕ, ◌+◌, ◌-◌, ◌*◌, Bool, cond, ◌&&◌, List, slice_index, Result}
 use Rattle.cells.specs.Cells.{blank}
 use Rattle.ground.specs.Tests.{between}
 use Rattle.steps.specs.declared.State.{State}
-use Rattle.terminal.specs.declared.Refusal.{Refusal}
-use Rattle.terminal.specs.Answers.{Answer, Done, Broken, WrongSize, NoRoom, OffPage, number, answer_of}
+use Rattle.terminal.specs.declared.Refused.{Refused}
+use Rattle.terminal.specs.Answers.{Answer, Done, Broken, WrongSize, NoRoom, OffPage, number, answered, returned}
 use Rattle.steps.specs.Whole.{whole_state, right_size}
 
 abbrev pub on_page : ℕ → ℕ → ℕ → Bool
@@ -50,6 +50,5 @@ unfoldable pub cell_read : State → List ℕ → ℕ → ℕ → Read
 cell_read s p r c = read_gives (read_answer s p r c) p r c
 
 -- what was returned, as the definition has it
-abbrev pub read_told : Result ℕ Refusal → Read
-read_told (Ok word) = record { number = 0; result = record { answer = Done; word = word } }
-read_told (Err e) = record { number = number (answer_of e); result = record { answer = answer_of e; word = blank } }
+abbrev pub read_told : Result ℕ (Refused ℕ) → Read
+read_told r = record { number = number (answered r); result = record { answer = answered r; word = returned r } }

@@ -1,11 +1,11 @@
 -- Reading a row of whichever display is active: its 80 cells. Refused, no cell.
-use Rattle.std.specs.Prelude.{ℕ, ◌-◌, cond, List, [], Result, Ok, Err}
+use Rattle.std.specs.Prelude.{ℕ, ◌-◌, cond, List, [], Result}
 use Rattle.std.specs.Borrow.{Bor}
 use Rattle.cells.specs.Rows.{row}
 use Rattle.ground.specs.Tests.{between}
 use Rattle.steps.specs.declared.State.{State}
-use Rattle.terminal.specs.declared.Refusal.{Refusal}
-use Rattle.terminal.specs.Answers.{Answer, Done, Broken, WrongSize, NoRoom, OffPage, number, answer_of}
+use Rattle.terminal.specs.declared.Refused.{Refused}
+use Rattle.terminal.specs.Answers.{Answer, Done, Broken, WrongSize, NoRoom, OffPage, number, answered, returned}
 use Rattle.steps.specs.Steps.{Buffers}
 use Rattle.steps.specs.Whole.{whole_state, right_sizes}
 
@@ -43,6 +43,5 @@ unfoldable pub row_read : State → Buffers → ℕ → RowRead
 row_read s p r = row_gives (row_answer s p r) s p r
 
 -- what was returned, as the definition has it
-abbrev pub row_told : Result (Bor (List ℕ)) Refusal → RowRead
-row_told (Ok cells) = record { number = number Done; cells = cells.now }
-row_told (Err e) = record { number = number (answer_of e); cells = [] }
+abbrev pub row_told : Result (Bor (List ℕ)) (Refused (Bor (List ℕ))) → RowRead
+row_told r = record { number = number (answered r); cells = (returned r).now }

@@ -1,12 +1,12 @@
 -- Starting: every cell of page and line blank, and the state fresh. Refused, it returns the fresh 24-row state and leaves both.
-use Rattle.std.specs.Prelude.{ℕ, ◌*◌, cond, List, replicate, Result, Ok, Err}
+use Rattle.std.specs.Prelude.{ℕ, ◌*◌, cond, List, replicate, Result}
 use Rattle.cells.specs.Cells.{blank}
 use Rattle.core_state.specs.Whole.{sized}
 use Rattle.core_state.specs.Fresh.{fresh_core}
 use Rattle.core_state.specs.StatusLine.{fresh_line}
 use Rattle.steps.specs.declared.State.{State}
-use Rattle.terminal.specs.declared.Refusal.{Refusal}
-use Rattle.terminal.specs.Answers.{Answer, Done, Broken, WrongSize, NoRoom, OffPage, number, answer_of}
+use Rattle.terminal.specs.declared.Refused.{Refused}
+use Rattle.terminal.specs.Answers.{Answer, Done, Broken, WrongSize, NoRoom, OffPage, number, answered, returned}
 use Rattle.steps.specs.Steps.{nothing_tracked, Buffers, buffers}
 use Rattle.steps.specs.Whole.{right_sizes}
 
@@ -52,6 +52,5 @@ unfoldable pub started : ℕ → Buffers → Start
 started r p = start_gives (start_answer r p) r p
 
 -- what was returned, and what is left in page and line, as the definition has it
-abbrev pub start_told : Result State Refusal → Buffers → Start
-start_told (Ok s) q = start_as Done s q
-start_told (Err e) q = start_refused (answer_of e) q
+abbrev pub start_told : Result State (Refused State) → Buffers → Start
+start_told r q = start_as (answered r) (returned r) q

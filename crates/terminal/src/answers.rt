@@ -1,8 +1,8 @@
 // The scope's numbers of the answers, and a refusal in words.
-ghost use Rattle.std.specs.Prelude.{◌≡◌};
-ghost use Rattle.terminal.specs.Answers.{number, answer_of};
+ghost use Rattle.std.specs.Prelude.{◌≡◌, if◌then◌else◌};
+ghost use Rattle.terminal.specs.Answers.{Done, NoRoom, number, answer_of, answered, returned};
 
-use crate::Refusal;
+use crate::{Refusal, Refused};
 use std::error::Error;
 use std::fmt;
 
@@ -10,6 +10,33 @@ use std::fmt;
 pub const DONE: u8 = 0;
 
 pub const NO_ROOM: u8 = 3;
+
+// The number of a feeding that is not refused: whether it stopped before a reply that does not fit.
+pub fn fitting(full: bool) -> u8
+    ensures { result ≡ number (if full then NoRoom else Done) }
+{
+    if full { NO_ROOM } else { DONE }
+}
+
+// The number of what a call answered, but of a feeding.
+pub fn number<T: Copy>(called: Result<T, Refused<T>>) -> u8
+    ensures { result ≡ number (answered called) }
+{
+    match called {
+        Ok(_) => DONE,
+        Err(refused) => refused.refusal.into(),
+    }
+}
+
+// What a call returned, refused or not.
+pub fn returned<T: Copy>(called: Result<T, Refused<T>>) -> T
+    ensures { result ≡ returned called }
+{
+    match called {
+        Ok(value) => value,
+        Err(refused) => refused.returned,
+    }
+}
 
 impl fmt::Display for Refusal {
     fn fmt<W: fmt::Write>(&self, f: &mut fmt::Formatter<W>) -> fmt::Result {

@@ -1,5 +1,6 @@
 // What the gateway calls. None of these asks that anything was checked before, and a refusal leaves all that was lent.
 ghost use Rattle.std.specs.Prelude.{◌≡◌};
+ghost use Rattle.cells.specs.Cells.{blank};
 ghost use Rattle.steps.specs.Steps.{buffers};
 ghost use Rattle.terminal.specs.Start as starting;
 ghost use Rattle.terminal.specs.Feed.{feed_told, fed, Taken};
@@ -8,7 +9,8 @@ ghost use Rattle.terminal.specs.Read.{page_answer, read_gives, read_told, cell_r
 ghost use Rattle.terminal.specs.CursorRead.{cursor_told, cursor_read};
 
 use crate::whole::{check, check_sizes, check_whole};
-use crate::{Asked, CursorRead, Refusal};
+use crate::{Asked, CursorRead, Refusal, Refused};
+use cells::BLANK;
 use cells::marks::count_rows;
 use core_state::Displays;
 use core_state::fresh::fresh_core;
@@ -33,17 +35,31 @@ pub fn fresh(rows: u8) -> State
     }
 }
 
+// The fresh state of 24 rows is returned.
+fn not_started(refusal: Refusal) -> Refused<State>
+    ensures { result ≡ record { refusal = refusal; returned = starting.fresh 24 } }
+{
+    Refused {
+        refusal,
+        returned: fresh(24),
+    }
+}
+
 // Starts a page of 24, 36 or 48 rows: every cell of page and line blank, the state fresh.
-pub fn start(rows: usize, page: &mut [u16], line: &mut [u16]) -> Result<State, Refusal>
+pub fn start(
+    rows: usize,
+    page: &mut [u16],
+    line: &mut [u16],
+) -> Result<State, Refused<State>>
     ensures { starting.start_told result (buffers page.new line.new)
         ≡ starting.started rows (buffers page.old line.old) }
 {
     // (`is_sized` takes a u8: with it the conversion, which can fail, would need a refusal of its own.)
     if !matches!(rows, 24 | 36 | 48) {
-        return Err(Refusal::Broken);
+        return Err(not_started(Refusal::Broken));
     }
     let rows = rows as u8;
-    check_sizes(rows, page, line)?;
+    check_sizes(rows, page, line).map_err(not_started)?;
     clear(page);
     clear(line);
     Ok(fresh(rows))
@@ -58,7 +74,7 @@ pub fn feed_whole(
     reply: &mut [u8],
 ) -> FedBytes
     requires { Taken state (buffers page.old line.old) }
-    ensures { feed_told state (Ok result) (buffers page.new line.new) reply.new
+    ensures { feed_told (Ok result) (buffers page.new line.new) reply.new
         ≡ fed state (buffers page.old line.old) input.now reply.old }
 {
     feed_bytes(state, page, line, input, reply)
@@ -71,19 +87,35 @@ pub fn feed(
     line: &mut [u16],
     input: &[u8],
     reply: &mut [u8],
-) -> Result<FedBytes, Refusal>
-    ensures { feed_told state result (buffers page.new line.new) reply.new
+) -> Result<FedBytes, Refused<FedBytes>>
+    ensures { feed_told result (buffers page.new line.new) reply.new
         ≡ fed state (buffers page.old line.old) input.now reply.old }
 {
-    check(state, page, line)?;
+    check(state, page, line).map_err(|refusal| Refused {
+        refusal,
+        returned: FedBytes {
+            read: 0,
+            replied: 0,
+            full: false,
+            state,
+        },
+    })?;
     Ok(feed_whole(state, page, line, input, reply))
 }
 
 // Asks for the changed rows and the line's flag, empties the set and clears the flag.
-pub fn ask(state: State) -> Result<Asked, Refusal>
-    ensures { ask_told state result ≡ asked state }
+pub fn ask(state: State) -> Result<Asked, Refused<Asked>>
+    ensures { ask_told result ≡ asked state }
 {
-    check_whole(state)?;
+    check_whole(state).map_err(|refusal| Refused {
+        refusal,
+        returned: Asked {
+            rows: 0,
+            count: 0,
+            flag: false,
+            state,
+        },
+    })?;
     let changed = state.tracked.changed;
     Ok(Asked {
         rows: changed,
@@ -99,35 +131,63 @@ pub fn ask(state: State) -> Result<Asked, Refusal>
     })
 }
 
+// A blank one is returned.
+fn no_cell(refusal: Refusal) -> Refused<u16>
+    ensures { result ≡ record { refusal = refusal; returned = blank } }
+{
+    Refused {
+        refusal,
+        returned: BLANK,
+    }
+}
+
 // Reads a cell of a page of so many rows.
-pub fn read_cell(rows: u8, page: &[u16], row: usize, column: usize) -> Result<u16, Refusal>
+pub fn read_cell(
+    rows: u8,
+    page: &[u16],
+    row: usize,
+    column: usize,
+) -> Result<u16, Refused<u16>>
     ensures { read_told result ≡ read_gives (page_answer rows page.now row column) page.now row column }
 {
     let rows = rows as usize;
     if page.len() != 80 * rows {
-        return Err(Refusal::WrongSize);
+        return Err(no_cell(Refusal::WrongSize));
     }
     if (1 <= row) & (row <= rows) & ((1 <= column) & (column <= 80)) {
         let at = 80 * (row - 1) + (column - 1);
         Ok(page[at])
     } else {
-        Err(Refusal::OffPage)
+        Err(no_cell(Refusal::OffPage))
     }
 }
 
 // Reads a cell of the page by its row and column, counted from 1.
-pub fn read(state: State, page: &[u16], row: usize, column: usize) -> Result<u16, Refusal>
+pub fn read(
+    state: State,
+    page: &[u16],
+    row: usize,
+    column: usize,
+) -> Result<u16, Refused<u16>>
     ensures { read_told result ≡ cell_read state page.now row column }
 {
-    check_whole(state)?;
+    check_whole(state).map_err(no_cell)?;
     read_cell(state.displays.core.rows, page, row, column)
 }
 
 // Reads the page's cursor: its row and column, counted from 1, whatever origin mode says.
-pub fn cursor(state: State) -> Result<CursorRead, Refusal>
+pub fn cursor(state: State) -> Result<CursorRead, Refused<CursorRead>>
     ensures { cursor_told result ≡ cursor_read state }
 {
-    check_whole(state)?;
+    check_whole(state).map_err(|refusal| Refused {
+        refusal,
+        returned: CursorRead {
+            row: 0,
+            column: 0,
+            wrap: false,
+            shown: false,
+        },
+    })?;
     let cursor = state.displays.core.cursor;
     Ok(CursorRead {
         row: cursor.row,

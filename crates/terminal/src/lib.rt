@@ -19,6 +19,13 @@ pub enum Refusal {
     OffPage,
 }
 
+// A refused call: why, and what it returns all the same (SCOPE 2).
+#[derive(Clone, Copy)]
+pub struct Refused<T> {
+    pub refusal: Refusal,
+    pub returned: T,
+}
+
 // The changed rows, how many they are, the line's flag, and the state with neither.
 #[derive(Clone, Copy)]
 pub struct Asked {

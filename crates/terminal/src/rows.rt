@@ -3,7 +3,7 @@ ghost use Rattle.std.specs.Prelude.{◌≡◌, if◌then◌else◌};
 ghost use Rattle.steps.specs.Steps.{buffers};
 ghost use Rattle.terminal.specs.Row.{active_rows, row_told, row_read};
 
-use crate::Refusal;
+use crate::{Refusal, Refused};
 use crate::whole::check;
 use cells::rows::row_of;
 use steps::State;
@@ -34,14 +34,21 @@ pub fn row<'a>(
     page: &'a [u16],
     line: &'a [u16],
     row: usize,
-) -> Result<&'a [u16], Refusal>
+) -> Result<&'a [u16], Refused<&'a [u16]>>
     ensures { row_told result ≡ row_read state (buffers page.now line.now) row }
 {
-    check(state, page, line)?;
+    let cells = active(state.displays.line.active, page, line);
+    let none = &cells[..0];
+    check(state, page, line).map_err(|refusal| Refused {
+        refusal,
+        returned: none,
+    })?;
     if (1 <= row) & (row <= active_rows(state)) {
-        let cells = active(state.displays.line.active, page, line);
         Ok(row_of(cells, row - 1))
     } else {
-        Err(Refusal::OffPage)
+        Err(Refused {
+            refusal: Refusal::OffPage,
+            returned: none,
+        })
     }
 }

@@ -6,5 +6,5 @@ use Rattle.terminal.proofs.calls.feed.Goals as goal
 pub feed_whole-requires : goal.feed_whole-requires
 feed_whole-requires c = search (rules, passed)
 
-pub returns-in_err-check : goal.returns-in_err-check
-returns-in_err-check c = search (rules, fed-refused)
+pub returns-in_err-map_err : goal.returns-in_err-map_err
+returns-in_err-map_err c = search (rules, fed-refused)

@@ -4,9 +4,9 @@ use Rattle.terminal.specs.Read.{cell_read}
 use Rattle.terminal.proofs.CallLaws.{whole-passed, whole-refused}
 use Rattle.terminal.proofs.calls.read.Goals as goal
 
-pub returns-in_err-check_whole : goal.returns-in_err-check_whole
+pub returns-in_err-map_err : goal.returns-in_err-map_err
 unfolding cell_read
-returns-in_err-check_whole c = search (rules, whole-refused)
+returns-in_err-map_err c = search (rules, whole-refused)
 
 pub returns : goal.returns
 unfolding cell_read

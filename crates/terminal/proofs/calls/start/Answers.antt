@@ -3,6 +3,7 @@ use Rattle.std.proofs.Common.{◌≡◌, ℕ, ◌⊎◌, inl, inr, refl, true, s
 use borrow.Author.Tests.{ne_eqb}
 use Rattle.core_state.specs.Whole.{sized}
 use Rattle.steps.specs.Steps.{buffers}
+use Rattle.steps.specs.Whole.{right_sizes}
 use Rattle.terminal.specs.Start.{started}
 use Rattle.terminal.proofs.CallLaws.{sizes-passed, sizes-refused, sizes-fit}
 use Rattle.terminal.proofs.calls.start.Goals as goal
@@ -24,18 +25,19 @@ tested c =
 
 pub returns-then-not-matches : goal.returns-then-not-matches
 unfolding started
-returns-then-not-matches c = rw (sym (tested (goal.at.returns-then-not-matches c).Joined-matches) ∙ c.if-not-matches.true)
+returns-then-not-matches c = rw (sym (tested (goal.at.returns-then-not-matches c).Joined-matches) ∙ c.if-not-matches.true, c.not_started.ensures)
 
-pub returns-in_err-check_sizes : goal.returns-in_err-check_sizes
+pub returns-in_err-map_err : goal.returns-in_err-map_err
 unfolding started
-returns-in_err-check_sizes c =
-    let one : sized c.args.rows ≡ true = sym (tested (goal.at.returns-in_err-check_sizes c).Joined-matches) ∙ c.if-not-matches.false in
+returns-in_err-map_err c =
+    let one : sized c.args.rows ≡ true = sym (tested (goal.at.returns-in_err-map_err c).Joined-matches) ∙ c.if-not-matches.false in
     search (rules, sizes-refused)
 
 pub returns : goal.returns
 unfolding started
 returns c =
     let one : sized c.args.rows ≡ true = sym (tested (goal.at.returns c).Joined-matches) ∙ c.if-not-matches.false in
-    let right = sizes-passed c.args.rows (buffers c.args.page.now c.args.line.now) tt c.in_ok-check_sizes.ensures in
-    let fit = sizes-fit c.args.rows (buffers c.args.page.now c.args.line.now) right in
+    let lent = buffers c.args.page.now c.args.line.now in
+    let right : right_sizes c.args.rows lent ≡ true = search (rules, sizes-passed) in
+    let fit = sizes-fit c.args.rows lent right in
     rw (one, right, c.fresh.ensures, c.clear.ensures, c.clear-2.ensures, fit.0, fit.1)
