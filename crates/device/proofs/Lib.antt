@@ -1,3 +1,4 @@
 pub mod TabLaws
 pub mod TabSearchLaws
+pub mod CursorLaws
 pub mod SendLaws

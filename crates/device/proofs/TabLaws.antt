@@ -28,8 +28,16 @@ use Rattle.device.specs.Tabs.{tab_byte, is_tab, with_byte, with_tab, without_tab
 half-bit : (m k : ℕ) → has_bit m (suc k) ≡ has_bit (m / 2) k
 half-bit m k = rw (pow-succ' 2 k, ← div-div-eq-div-mul m 2 (2 ^ k))
 
--- a weight can be taken where it is
-weight-there : (b k : ℕ) → has_bit b k ≡ true → 2 ^ k ≤ b
+-- a weight can be added where it is not there
+pub weight-fits : (b n k : ℕ) → b < 2 ^ n → k < n → has_bit b k ≡ false → b + 2 ^ k < 2 ^ n
+weight-fits b zero k h l e = absurd (omega arith)
+weight-fits b (suc n) zero h l e = omega (arith, pow-succ' 2 n, eqb-false (b / 2 ^ 0 % 2) 1 e)
+weight-fits b (suc n) (suc k) h l e =
+    let half = weight-fits (b / 2) n k (omega (arith, pow-succ' 2 n)) (omega arith) (sym (half-bit b k) ∙ e) in
+    omega (arith, pow-succ' 2 n, pow-succ' 2 k)
+
+-- and taken where it is
+pub weight-there : (b k : ℕ) → has_bit b k ≡ true → 2 ^ k ≤ b
 weight-there b zero e = omega (arith, eqb-true (b / 2 ^ 0 % 2) 1 e)
 weight-there b (suc k) e = let half = weight-there (b / 2) k (sym (half-bit b k) ∙ e) in omega (arith, pow-succ' 2 k)
 

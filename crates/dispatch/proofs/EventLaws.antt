@@ -1,9 +1,9 @@
 -- What does not interrupt is no event: it draws no reply, and tells the status line nothing.
-use Rattle.std.proofs.Common.{◌≡◌, ℕ, ◌+◌, Bool, true, false, not, ◌&&◌, ◌||◌, eqb, ltb, Option, None, [], sym, refl, ap, ◌∙◌, arith, ne_eqb}
+use Rattle.std.proofs.Common.{◌≡◌, ℕ, ◌+◌, ◌<◌, ◌≤◌, Bool, true, false, not, ◌&&◌, ◌||◌, eqb, ltb, Option, None, [], sym, refl, ap, ◌∙◌, arith, ne_eqb, eqb-true}
 use mathlib.Core.Bool.{and-false}
 use borrow.Author.Tests.{eqb-false}
 use Rattle.ground.specs.Tests.{between}
-use Rattle.ground.proofs.TestLaws.{or_left, or_right, either}
+use Rattle.ground.proofs.TestLaws.{or_cases, or_left, or_right, either}
 use Rattle.parser.specs.declared.phases.Phase.{Phase}
 use Rattle.parser.specs.declared.phases.Phase.TheVariants.{Ground}
 use Rattle.parser.specs.declared.phases.Op.{Op}
@@ -50,6 +50,18 @@ unnotable x h = record {
   brace = or_left (eqb x 0x7D) _ (or_right (eqb x 0x70) _ (or_right (eqb x 0x6E) _ (or_right (eqb x 0x63) _ (or_right (eqb x 0x5A) _ h))));
   tilde = or_right (eqb x 0x7D) _ (or_right (eqb x 0x70) _ (or_right (eqb x 0x6E) _ (or_right (eqb x 0x63) _ (or_right (eqb x 0x5A) _ h))));
 }
+
+-- all of them end a sequence
+pub notable-final : (x : ℕ) → is_notable x ≡ true → (0x40 ≤ x) × (x < 0x7F)
+notable-final x h =
+    or_cases (eqb x 0x5A) _ h (at 0x5A (omega arith, omega arith))
+    (λ h1. or_cases (eqb x 0x63) _ h1 (at 0x63 (omega arith, omega arith))
+    (λ h2. or_cases (eqb x 0x6E) _ h2 (at 0x6E (omega arith, omega arith))
+    (λ h3. or_cases (eqb x 0x70) _ h3 (at 0x70 (omega arith, omega arith))
+    (λ h4. or_cases (eqb x 0x7D) _ h4 (at 0x7D (omega arith, omega arith)) (at 0x7E (omega arith, omega arith))))))
+  where
+    at : (k : ℕ) → (0x40 ≤ k) × (k < 0x7F) → eqb x k ≡ true → (0x40 ≤ x) × (x < 0x7F)
+    at k b e = rw (eqb-true x k e) b
 
 -- ---- an action that interrupts nothing is no event
 

@@ -1,14 +1,37 @@
 -- What clears wrap due is what is listed and is none of the keepers.
-use Rattle.std.proofs.Common.{◌≡◌, ℕ, Bool, true, false, cond, not, ◌&&◌, ◌||◌, sym, refl, ◌∙◌, ne_eqb}
+use Rattle.std.proofs.Common.{◌≡◌, ℕ, zero, suc, ◌<◌, Bool, true, false, cond, not, ◌&&◌, ◌||◌, sym, refl, ◌∙◌, arith, ne_eqb}
 use mathlib.Core.Bool.{and-false, and-true, or-false}
+use borrow.Author.Tests.{not-true}
 use Rattle.parser.specs.declared.parser.Action.{Action}
 use Rattle.parser.specs.declared.parser.Action.TheVariants.{Nothing}
 use Rattle.core_state.specs.declared.Core.{Core}
 use Rattle.parser.specs.Params.{member}
 use Rattle.parser.specs.Families.{is_protection, is_soft_reset, is_dollar, is_extent}
-use Rattle.ground.proofs.TestLaws.{and_right, at-number}
+use Rattle.ground.proofs.TestLaws.{and_left, and_right, at-number}
 use Rattle.dispatch.specs.Heard.{dollar_finals, is_secondary, listed_rest, is_listed, is_ignored}
 use Rattle.dispatch.specs.WrapDue.{other_keeps, keeps_wrap, clears_wrap}
+
+-- ---- two tests that agree at each number below n
+
+abbrev same : Bool → Bool → Bool
+same true b = b
+same false b = not b
+
+same-is : (a b : Bool) → same a b ≡ true → a ≡ b
+same-is true b e = sym e
+same-is false b e = sym (not-true b e)
+
+abbrev pub alike : (ℕ → Bool) → (ℕ → Bool) → ℕ → Bool
+alike f g zero = true
+alike f g (suc n) = same (f n) (g n) && alike f g n
+
+pub alike_at : (f g : ℕ → Bool) (n : ℕ) → alike f g n ≡ true → (b : ℕ) → b < n → f b ≡ g b
+alike_at f g zero e b h = absurd (omega arith)
+alike_at f g (suc n) e b h =
+    at-number (λ (k : ℕ). f k ≡ g k) b n (same-is (f n) (g n) (and_left (same (f n) (g n)) (alike f g n) e))
+    (λ u. alike_at f g n (and_right (same (f n) (g n)) (alike f g n) e) b (omega arith))
+
+-- ---- the families
 
 -- of those that are neither plain nor private, only ! p clears it
 pub others_clear : (mark first second last : ℕ) → is_soft_reset mark first second last

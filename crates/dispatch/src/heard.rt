@@ -12,14 +12,14 @@ use parser::families::Function;
 use parser::params::Params;
 use parser::parser::Action;
 
-fn inside_margins(core: Core) -> bool
+pub fn inside_margins(core: Core) -> bool
     ensures { result ≡ hearing.inside_margins core }
 {
     between(core.margins.top, core.cursor.row, core.margins.bottom)
 }
 
 // Outside T to B, and on the status line.
-fn ignores_lines(core: Core) -> bool
+pub fn ignores_lines(core: Core) -> bool
     ensures { result ≡ is_line core || not (hearing.inside_margins core) }
 {
     is_line(core) | !inside_margins(core)

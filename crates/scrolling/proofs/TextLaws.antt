@@ -2,20 +2,30 @@
 use mathlib.Core.Path.{◌≡◌, refl, sym, ap, ap₂, ◌∙◌}
 use mathlib.Core.Bool.{Bool, true, false, cond, ◌&&◌, and_assoc, and-true}
 use mathlib.Core.List.{List, [], ◌∷◌, ◌++◌}
-use Prim.Native.Nat.{ℕ, ◌+◌, ◌≤◌, ◌<◌}
+use Prim.Native.Nat.{ℕ, suc, ◌+◌, ◌-◌, ◌≤◌, ◌<◌}
+use native.Mathlib.Nat.{add-zero}
 use native.Mathlib.Numerals.{add-one}
 use native.Mathlib.Omega.{arith}
 use lib.Dec.{eqb}
 use mir.Val.{bool_byte}
 use lib.ListN.{length, get_or, take, drop, length-append, length-drop}
-use lib.Seq.{take-suc, take-add, drop-drop, take-append_seam, drop-append_seam}
+use lib.Seq.{take-suc, take-add, drop-cons, drop-drop, take-append_seam, drop-append_seam}
+use Rattle.ground.specs.Spans.{span}
 use Rattle.ground.specs.Folds.{folded}
+use Rattle.ground.proofs.SpanLaws.{span_none}
 use Rattle.ground.proofs.TestLaws.{and_left, and_right, and_both}
 use Rattle.scrolling.specs.Text.{is_text, all_text, feeds_of}
 
 pub folded-append : {A : Type 0} (f : A → ℕ → A) (a : A) (xs ys : List ℕ) → folded f a (xs ++ ys) ≡ folded f (folded f a xs) ys
 folded-append f a [] ys = refl
 folded-append f a (x ∷ xs) ys = folded-append f (f a x) xs ys
+
+-- the first of the bytes from one place to another
+pub span-first : (input : List ℕ) (i j : ℕ) → i < j → j ≤ length input → span input i j ≡ get_or input i 0 ∷ span input (i + 1) j
+span-first input i j h l =
+    let more : j - i ≡ suc (j - (i + 1)) = omega arith in
+    let here : i < length input = omega arith in
+    rw (more, drop-cons input i 0 here, add-one i)
 
 pub text-append : (xs ys : List ℕ) → all_text (xs ++ ys) ≡ all_text xs && all_text ys
 unfolding all_text
@@ -34,7 +44,18 @@ text-first x xs e = and_left (is_text x) (all_text xs) e
 pub text-rest : (xs ys : List ℕ) → all_text (xs ++ ys) ≡ true → all_text ys ≡ true
 text-rest xs ys e = and_right (all_text xs) (all_text ys) (sym (text-append xs ys) ∙ e)
 
--- ---- one byte more
+-- ---- none, and one byte more
+
+none : (input : List ℕ) (from : ℕ) → span input from (from + 0) ≡ []
+none input from = rw add-zero (span_none input from)
+
+pub text-none : (input : List ℕ) (from : ℕ) → true ≡ all_text (span input from (from + 0))
+unfolding all_text
+text-none input from = ap all_text (sym (none input from))
+
+pub feeds-none : (input : List ℕ) (from : ℕ) → 0 ≡ feeds_of (span input from (from + 0))
+unfolding feeds_of
+feeds-none input from = ap feeds_of (sym (none input from))
 
 module _ (xs : List ℕ) (k : ℕ) (h : k < length xs) where
   next : take (k + 1) xs ≡ take k xs ++ (get_or xs k 0 ∷ [])

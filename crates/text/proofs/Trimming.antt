@@ -6,7 +6,7 @@ use native.Mathlib.Numerals.{add-one}
 use native.Mathlib.Omega.{arith}
 use lib.Dec.{eqb}
 use lib.ListN.{length, get_or, take, length-map, length-take}
-use lib.Seq.{take-suc, take-length}
+use lib.Seq.{take-suc, take-length, length-take-le}
 use borrow.Author.Tests.{ne_eqb}
 use Rattle.std.proofs.lemmas.List.{take-map}
 use Rattle.ground.proofs.TestLaws.{either}
@@ -66,6 +66,11 @@ trimmed-within r =
     let e = ap length (trimmed-front (map sign r)) in
     omega (arith, e ∙ length-take (length (trimmed (map sign r))) (map sign r), length-map r sign)
 
--- the cells that are left have the signs that are left
+-- the cells that are left
+module _ (r : List ℕ) (n : ℕ) (e : n ≡ length (trimmed (map sign r))) where
+  pub left-count : n ≡ length (take n r)
+  left-count = sym (length-take-le n r (omega (arith, trimmed-within r)))
+
+-- they have the signs that are left
 pub left-signs : (r : List ℕ) → map sign (take (length (trimmed (map sign r))) r) ≡ trimmed (map sign r)
 left-signs r = sym (take-map sign (length (trimmed (map sign r))) r) ∙ sym (trimmed-front (map sign r))
