@@ -90,10 +90,7 @@ fn attributes_of(params: &Params) -> &[u16]
 
 // What all of them make of a cell's attributes, in order, by the function of one value.
 #[tactic(auto, unfolding(crate::specs::Attributes::restyling_of))]
-pub fn restyling_of<F: Fn(Styling, u16) -> Option<Styling>>(
-    params: Params,
-    by: F,
-) -> Option<Styling>
+fn restyled_by<F: Fn(Styling, u16) -> Option<Styling>>(params: Params, by: F) -> Option<Styling>
     ghost reversing: { Bool }
     requires callable { F.IsAlwaysCallable by }
     requires one { (s : Styling) (v : ℕ) (r : Option Styling) → F.post by s v r → r ≡ attributes.one_value reversing s v }
@@ -103,4 +100,14 @@ pub fn restyling_of<F: Fn(Styling, u16) -> Option<Styling>>(
         None,
         |made, value| by(made.unwrap_or(SAME), *value).or(made),
     )
+}
+
+// DECRARA reverses, DECCARA changes.
+pub fn restyling_of(reversing: bool, params: Params) -> Option<Styling>
+    ensures { result ≡ attributes.restyling_of reversing params }
+{
+    if reversing {
+        return restyled_by(params, reverse_by);
+    }
+    restyled_by(params, change_by)
 }

@@ -3,7 +3,7 @@ ghost use Rattle.std.specs.Prelude.{◌≡◌, if◌then◌else◌};
 ghost use Rattle.rectangles.specs.Functions as functions;
 
 use crate::areas::{Area, LAST, area_at, column_edge, is_taken, row_edge};
-use crate::attributes::{change_by, restyling_of, reverse_by};
+use crate::attributes::restyling_of;
 use cells::{BLANK, COLUMNS, CellChange, Styling};
 use core_state::effects::{unedited, without_shift};
 use core_state::glyphs::{glyph, skipped, used_set};
@@ -162,8 +162,8 @@ fn edit_in(core: Core, params: Params, area: Area, last: u8) -> Edit
 {
     let rectangle = core.modes.rectangle;
     match last {
-        0x72 => change_attributes(rectangle, area, restyling_of(params, change_by)), // DECCARA
-        0x74 => change_attributes(rectangle, area, restyling_of(params, reverse_by)), // DECRARA
+        0x72 => change_attributes(rectangle, area, restyling_of(false, params)), // DECCARA
+        0x74 => change_attributes(rectangle, area, restyling_of(true, params)), // DECRARA
         0x76 => copy_rectangle(core, params, area), // DECCRA
         0x78 => fill_rectangle(core, params, area), // DECFRA
         0x7A => fill(area, BLANK), // DECERA

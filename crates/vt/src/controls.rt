@@ -8,7 +8,7 @@ ghost use Rattle.vt.specs.Controls as controls;
 
 use crate::printing::index_edit;
 use core_state::effects::{one_edit, unedited};
-use core_state::geometry::{left_stop, right_stop};
+use core_state::geometry::{left_stop, right_stop, stops_of};
 use core_state::{Core, Decision, Margins};
 use device::charsets::{Register, SingleShift};
 use device::cursor::Cursor;
@@ -21,7 +21,7 @@ fn index_from(mut core: Core, cursor: Cursor) -> Decision
     requires { (cursor.row ≤ core.rows) × (1 ≤ core.margins.top) }
     ensures { result ≡ controls.index_from core cursor }
 {
-    let edit = index_edit(core, cursor);
+    let edit = index_edit(core.margins, stops_of(core), cursor);
     core.cursor = cursor.index(core.margins.bottom, core.rows);
     one_edit(core, edit)
 }

@@ -6,7 +6,7 @@ ghost use Rattle.vt.specs.Printing as printing;
 
 use cells::CharSet;
 use core_state::effects::{unedited, without_shift};
-use core_state::geometry::{left_stop, right_stop};
+use core_state::geometry::{Stops, left_stop, right_stop, stops_of};
 use core_state::glyphs::{cell_word, glyph, skipped, used_set};
 use core_state::{Core, Decision, Margins};
 use device::cursor::Cursor;
@@ -15,17 +15,17 @@ use page::Edit;
 // ---- the edits, with the cursor at a place
 
 // IND at the bottom margin: rows T to B scroll up, if there are two or more.
-pub fn index_edit(core: Core, cursor: Cursor) -> Edit
-    requires { 1 ≤ core.margins.top }
-    ensures { result ≡ printing.index_edit core.margins (stops_of core) cursor }
+pub fn index_edit(margins: Margins, stops: Stops, cursor: Cursor) -> Edit
+    requires { (1 ≤ margins.top) × (1 ≤ stops.left) }
+    ensures { result ≡ printing.index_edit margins stops cursor }
 {
-    let Margins { top, bottom } = core.margins;
+    let Margins { top, bottom } = margins;
     if (cursor.row == bottom) & (top < bottom) {
         return Edit::ScrollUp {
             top: top - 1,
             end: bottom,
-            left: left_stop(core) - 1,
-            right: right_stop(core),
+            left: stops.left - 1,
+            right: stops.right,
             count: 1,
         };
     }
@@ -84,7 +84,7 @@ fn print_word(core: Core, word: u16) -> Printed
         let start = core.cursor.to_column(left_stop(core));
         return Printed {
             cursor,
-            first: index_edit(core, start),
+            first: index_edit(core.margins, stops_of(core), start),
             second: put,
         };
     }
