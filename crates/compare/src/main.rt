@@ -3,7 +3,6 @@
 // and two numbers of two bytes; after F comes the input, after Q a parser.
 #![tactic(auto)]
 
-use cells::BLANK;
 use ground::writing::Writer;
 use probes::output::{put, put_bytes, put_number, put_words};
 use probes::pokes::{number16, poke, poke_parser};
@@ -11,8 +10,7 @@ use probes::views::put_displays;
 use std::io;
 use std::io::{ErrorKind, Read, Write};
 use steps::State;
-use terminal::Refusal;
-use terminal::answers::{DONE, NO_ROOM};
+use terminal::answers::{fed_number, number, returned};
 use terminal::calls::{ask, feed, fresh, read, start};
 use terminal::rows::row;
 use text::write_text;
@@ -49,23 +47,15 @@ fn flush(writer: &mut impl Write, out: &mut Writer) -> io::Result<()> {
     writer.write_all(&out.bytes[..n])
 }
 
-fn number<T: Copy>(called: Result<T, Refusal>) -> u8 {
-    match called {
-        Ok(_) => DONE,
-        Err(refusal) => refusal.into(),
-    }
-}
-
 // The letter of a command, and the number of its answer: they begin what is written of a call.
 fn put_answer(out: &mut Writer, letter: u8, answer: u8) {
     put(out, letter);
     put(out, answer);
 }
 
-// After a start that is refused the state is the fresh one of 24 rows.
 fn do_start(state: &mut State, rows: u16, page: &mut [u16], line: &mut [u16], out: &mut Writer) {
     let begun = start(rows as usize, page, line);
-    *state = begun.unwrap_or(fresh(24));
+    *state = returned(begun);
     put_answer(out, b'S', number(begun));
 }
 
@@ -79,43 +69,35 @@ fn do_feed(
     out: &mut Writer,
 ) {
     reply.fill(0xEE);
-    let (answer, read, replied) = match feed(*state, page, line, input, reply) {
-        Ok(fed) => {
-            *state = fed.state;
-            (if fed.full { NO_ROOM } else { DONE }, fed.read, fed.replied)
-        }
-        Err(refusal) => (refusal.into(), 0, 0),
-    };
-    put_answer(out, b'F', answer);
-    put_number(out, read as u64, 2);
-    put_number(out, replied as u64, 2);
+    let called = feed(*state, page, line, input, reply);
+    let fed = returned(called);
+    *state = fed.state;
+    put_answer(out, b'F', fed_number(called));
+    put_number(out, fed.read as u64, 2);
+    put_number(out, fed.replied as u64, 2);
     put_bytes(out, reply);
 }
 
 fn do_ask(state: &mut State, out: &mut Writer) {
-    let (answer, rows, count, flag) = match ask(*state) {
-        Ok(asked) => {
-            *state = asked.state;
-            (DONE, asked.rows, asked.count, asked.flag)
-        }
-        Err(refusal) => (refusal.into(), 0, 0, false),
-    };
-    put_answer(out, b'A', answer);
-    put_number(out, rows, 8);
-    put_number(out, count as u64, 1);
-    put(out, flag as u8);
+    let called = ask(*state);
+    let asked = returned(called);
+    *state = asked.state;
+    put_answer(out, b'A', number(called));
+    put_number(out, asked.rows, 8);
+    put_number(out, asked.count as u64, 1);
+    put(out, asked.flag as u8);
 }
 
 fn do_read(state: State, page: &[u16], row: u16, column: u16, out: &mut Writer) {
     let word = read(state, page, row as usize, column as usize);
     put_answer(out, b'R', number(word));
-    put_number(out, word.unwrap_or(BLANK) as u64, 2);
+    put_number(out, returned(word) as u64, 2);
 }
 
 fn do_row<'a>(state: State, page: &'a [u16], line: &'a [u16], at: u16, out: &mut Writer) {
     let found = row(state, page, line, at as usize);
     put_answer(out, b'O', number(found));
-    let cells = found.unwrap_or(&[]);
+    let cells = returned(found);
     put_number(out, cells.len() as u64, 1);
     put_words(out, cells);
 }

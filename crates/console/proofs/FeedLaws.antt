@@ -9,7 +9,7 @@ use Rattle.steps.specs.declared.State.{State}
 use Rattle.terminal.specs.Feed.{Feed, fitting, feed_first, feed_told, fed}
 use Rattle.terminal.specs.Start.{Start, start_as, fresh, blank_page, blank_buffers, start_told, started}
 use Rattle.std.specs.Prelude.{Result, Ok, Err, IsOk, true, false}
-use Rattle.terminal.specs.declared.Refusal.{Refusal}
+use Rattle.terminal.specs.declared.Refused.{Refused}
 use Rattle.terminal.specs.Answers.{Done, refusal}
 use Rattle.steps.specs.Steps.{Screen, Buffers, buffers, ran, screen}
 use Rattle.feeding.specs.declared.bytes.FedBytes.{FedBytes}
@@ -28,11 +28,11 @@ pub record OneCall (s : State) (p : Buffers) (i : List ℕ) (r : FedBytes) (p' :
 
 pub one-call : (s : State) (p : Buffers) (i o : List ℕ) (r : FedBytes) (p' : Buffers) (o' : List ℕ)
     → Ready s p.page → length p.line ≡ 80 → 11 ≤ length o → 0 < length i
-    → feed_told s (Ok r) p' o' ≡ fed s p i o → OneCall s p i r p'
+    → feed_told (Ok r) p' o' ≡ fed s p i o → OneCall s p i r p'
 one-call s p i o r p' o' k l room more e =
     let n : ℕ = read_count s i o in
     let d : Screen = ran (screen s p) (take n i) in
-    let run : feed_told s (Ok r) p' o' ≡ feed_first (fitting s i o) n s p i o =
+    let run : feed_told (Ok r) p' o' ≡ feed_first (fitting s i o) n s p i o =
     e ∙ fed-processed s p i o (state-tested s k.whole) (fit-sizes s.displays.core.rows p k.size l) in
     let count : r.read ≡ n = ap (λ (f : Feed). f.result.read) run in
     let whole : screen r.state p' ≡ d = ap₂ screen (ap (λ (f : Feed). f.result.state) run) (ap (λ (f : Feed). f.buffers) run) in
@@ -73,7 +73,7 @@ module _ {s₀ : State} {p₀ : Buffers} {input o₀ : List ℕ} {s : State} {p 
   -- a call reads some of the bytes from there on, and does them
   module _ (r : FedBytes) (p' : Buffers) (o' : List ℕ) (lined : length p₀.line ≡ 80) (room : 11 ≤ length o₀) (more : from < length input)
       (lp : length p'.page ≡ length p.page) (ll : length p'.line ≡ length p.line) (lo : length o' ≡ length o)
-      (e : feed_told s (Ok r) p' o' ≡ fed s p (take (length input - from) (drop from input)) o) where
+      (e : feed_told (Ok r) p' o' ≡ fed s p (take (length input - from) (drop from input)) o) where
     one : OneCall s p (drop from input) r p'
     one =
         let rest = take_all (length input - from) (drop from input) (simp length-drop (omega arith)) in
@@ -98,8 +98,8 @@ module _ {s₀ : State} {p₀ : Buffers} {input o₀ : List ℕ} {s : State} {p 
   going-all h = subst (λ (xs : List ℕ). RanOver s₀ p₀ xs s p) (take_all from input h) g.over
 
   -- the call is not refused
-  pub turn-ok : (r : Result FedBytes Refusal) (p' : Buffers) (o' : List ℕ) → length p₀.line ≡ 80
-      → feed_told s r p' o' ≡ fed s p (take (length input - from) (drop from input)) o → IsOk r
+  pub turn-ok : (r : Result FedBytes (Refused FedBytes)) (p' : Buffers) (o' : List ℕ) → length p₀.line ≡ 80
+      → feed_told r p' o' ≡ fed s p (take (length input - from) (drop from input)) o → IsOk r
   turn-ok r p' o' lined e =
       fed-ok s p (take (length input - from) (drop from input)) o r p' o' (record {
         whole = state-tested s g.over.ready.whole;
@@ -119,7 +119,7 @@ fresh-ready = record {
   size = length-replicate (80 * 24) blank;
 }
 
-module _ (p l : List ℕ) (r : Result State Refusal) (p' l' : List ℕ) (e : start_told r (buffers p' l') ≡ started 24 (buffers p l))
+module _ (p l : List ℕ) (r : Result State (Refused State)) (p' l' : List ℕ) (e : start_told r (buffers p' l') ≡ started 24 (buffers p l))
     (h : length p ≡ 1920) (k : length l ≡ 80) where
   begun : start_told r (buffers p' l') ≡ start_as Done (fresh 24) (blank_buffers 24)
   begun = e ∙ started-as 24 (buffers p l) Done (rw (fit-sizes 24 (buffers p l) h k))
@@ -127,9 +127,9 @@ module _ (p l : List ℕ) (r : Result State Refusal) (p' l' : List ℕ) (e : sta
   pub start-ok : IsOk r
   start-ok = go r begun
     where
-      go : (r : Result State Refusal) → start_told r (buffers p' l') ≡ start_as Done (fresh 24) (blank_buffers 24) → IsOk r
+      go : (r : Result State (Refused State)) → start_told r (buffers p' l') ≡ start_as Done (fresh 24) (blank_buffers 24) → IsOk r
       go (Ok s) e = refl
-      go (Err x) e = absurd (true≢false (sym (refusing x) ∙ ap (λ (d : Start). refusal d.result.answer) e))
+      go (Err x) e = absurd (true≢false (sym (refusing x.refusal) ∙ ap (λ (d : Start). refusal d.result.answer) e))
 
   pub start-ready : (s : State) → r ≡ Ok s → Ready s p'
   start-ready s is =

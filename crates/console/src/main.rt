@@ -3,7 +3,7 @@
 // writes no page.
 #![tactic(auto)]
 
-ghost use Rattle.std.specs.Prelude.{◌≡◌, ◌+◌, ◌*◌, ◌≤◌, length, IfOk};
+ghost use Rattle.std.specs.Prelude.{◌≡◌, ◌+◌, ◌*◌, ◌≤◌, length};
 ghost use Rattle.std.proofs.lemmas.List.Edits.{sets};
 ghost use Rattle.steps.specs.Ready.{Ready};
 ghost use Rattle.steps.specs.Steps.{buffers};
@@ -40,24 +40,23 @@ fn feed_all(
     newest
 }
 
-// Reads until the input ends, and feeds what comes. A read that a signal interrupted is tried again. A proved loop has to
-// end, and nothing says that the input does: so the reads are counted, up to a number that no run uses up.
+// Reads until the input ends, or cannot be read, and feeds what comes. A read that a signal interrupted is tried again. A
+// proved loop has to end, and nothing says that the input does: so the reads are counted, up to a number that no run uses up.
 fn read_all(
     reader: &mut impl Read,
-    state: State,
+    state: &mut State,
     page: &mut [u16],
     line: &mut [u16],
     buffer: &mut [u8],
     reply: &mut [u8],
-) -> io::Result<State>
-    requires { Ready state page.old × (length line.old ≡ 80) × (11 ≤ length reply.old) }
-    ensures { IfOk result (λ newest. Ready newest page.new) }
+) -> io::Result<()>
+    requires { Ready state.old page.old × (length line.old ≡ 80) × (11 ≤ length reply.old) }
+    ensures { Ready state.new page.new }
 {
-    let mut newest = state;
     for _ in 0..u64::MAX {
         match reader.read(buffer) {
-            Ok(0) => return Ok(newest),
-            Ok(n) => newest = feed_all(newest, page, line, &buffer[..n], reply),
+            Ok(0) => return Ok(()),
+            Ok(n) => *state = feed_all(*state, page, line, &buffer[..n], reply),
             Err(e) if e.kind() == ErrorKind::Interrupted => {}
             Err(e) => return Err(e),
         }
@@ -83,10 +82,10 @@ fn show(rt: &(impl Input + Print + Eprint), line_too: bool) -> io::Result<()> {
     let mut out = [0u8; 5784];
     let mut reader = rt.reader();
     let mut writer = io::writer(rt);
-    let state = start(24, &mut page, &mut line).unwrap();
+    let mut state = start(24, &mut page, &mut line).unwrap();
     let read = read_all(
         &mut reader,
-        state,
+        &mut state,
         &mut page,
         &mut line,
         &mut buffer,

@@ -41,6 +41,10 @@ impl Tabs {
         requires { (1 ≤ column) × (column ≤ 80) }
         ensures { result ≡ with_tab self column }
     {
+        // (A flag that is set is left: a byte that is stored and at once loaded with others costs ten of the test.)
+        if self.get(column) {
+            return self;
+        }
         let (at, bit) = flag_of(column);
         self.flags[at] |= bit;
         self
@@ -51,8 +55,10 @@ impl Tabs {
         requires { (1 ≤ column) × (column ≤ 80) }
         ensures { result ≡ without_tab self column }
     {
-        let (at, bit) = flag_of(column);
-        self.flags[at] &= !bit;
+        if self.get(column) {
+            let (at, bit) = flag_of(column);
+            self.flags[at] &= !bit;
+        }
         self
     }
 

@@ -25,7 +25,7 @@ pub use Rattle.terminal.specs.Feed.{Taken}
 use Rattle.terminal.specs.declared.Asked.{Asked as Report}
 use Rattle.terminal.specs.Ask.{Ask, ask_done, ask_refused, ask_told, asked}
 use Rattle.terminal.specs.Read.{on_page, read_answer, read_gives, cell_read}
-use Rattle.terminal.specs.Row.{active_rows, active_cells, row_answer, row_gives, row_told, row_read}
+use Rattle.terminal.specs.Row.{active_rows, active_cells, row_answer, row_cells, row_gives, row_read}
 
 -- ---- whole states
 
@@ -240,14 +240,22 @@ row_done s p r h = go (whole_state s) refl (right_sizes s.displays.core.rows p) 
     go true ew false et u eu h = absurd (true≢false h)
     go false ew t et u eu h = absurd (true≢false h)
 
+pub row-refused : (a : Answer) (s : State) (p : Buffers) (r : ℕ) → refusal a ≡ true → row_cells a s p r ≡ []
+row-refused Done s p r h = absurd (false≢true h)
+row-refused Broken s p r h = refl
+row-refused WrongSize s p r h = refl
+row-refused NoRoom s p r h = refl
+row-refused OffPage s p r h = refl
+
 pub row_as : (s : State) (p : Buffers) (r : ℕ) (a : Answer) → row_answer s p r ≡ a → row_read s p r ≡ row_gives a s p r
 unfolding row_read
 row_as s p r a e = ap (λ (x : Answer). row_gives x s p r) e
 
-pub row-refused : (s : State) (p : Buffers) (r : ℕ) (e : Refusal) → Err e ≡ checked s p
+-- what is told of one that the tests refuse
+pub row-told-refused : (s : State) (p : Buffers) (r : ℕ) (e : Refusal) → Err e ≡ checked s p
     → record { number = number (answer_of e); cells = [] } ≡ row_read s p r
 unfolding row_read
-row-refused s p r e h = refused-cases s p e h (λ w is. rw (is, w)) (λ w n is. rw (is, w, n))
+row-told-refused s p r e h = refused-cases s p e h (λ w is. rw (is, w)) (λ w n is. rw (is, w, n))
 
 -- ---- the start
 

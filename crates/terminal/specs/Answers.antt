@@ -1,5 +1,5 @@
 -- What a call answers (SCOPE 2), and what a refusal and the tests before a call stand for.
-use Rattle.std.specs.Prelude.{ℕ, Bool, true, false, cond, Result, Ok, Err}
+use Rattle.std.specs.Prelude.{ℕ, Bool, true, false, cond, List, codes, Result, Ok, Err}
 use Rattle.terminal.specs.declared.Refusal.{Refusal}
 use Rattle.terminal.specs.declared.Refusal.TheVariants as R
 use Rattle.terminal.specs.declared.Refused.{Refused}
@@ -36,6 +36,12 @@ abbrev pub answer_of : Refusal → Answer
 answer_of R.Broken = Broken
 answer_of R.WrongSize = WrongSize
 answer_of R.OffPage = OffPage
+
+-- a refusal in words
+abbrev pub words : Refusal → List ℕ
+words R.Broken = codes "the state is not whole"
+words R.WrongSize = codes "page or line is of another length"
+words R.OffPage = codes "there is no such row or cell"
 
 -- the answer of a call that is no feeding
 abbrev pub answered : {T : Type 0} → Result T (Refused T) → Answer

@@ -1,8 +1,10 @@
 // The scope's numbers of the answers, and a refusal in words.
 ghost use Rattle.std.specs.Prelude.{◌≡◌, if◌then◌else◌};
 ghost use Rattle.terminal.specs.Answers.{Done, NoRoom, number, answer_of, answered, returned};
+ghost use Rattle.terminal.specs.Feed.{feed_answered};
 
 use crate::{Refusal, Refused};
+use feeding::bytes::FedBytes;
 use std::error::Error;
 use std::fmt;
 
@@ -11,11 +13,21 @@ pub const DONE: u8 = 0;
 
 pub const NO_ROOM: u8 = 3;
 
-// The number of a feeding that is not refused: whether it stopped before a reply that does not fit.
+// The number of a feeding that is not refused, by whether it stopped before a reply that does not fit.
 pub fn fitting(full: bool) -> u8
     ensures { result ≡ number (if full then NoRoom else Done) }
 {
     if full { NO_ROOM } else { DONE }
+}
+
+// The number of what a feeding answered.
+pub fn fed_number(called: Result<FedBytes, Refused<FedBytes>>) -> u8
+    ensures { result ≡ number (feed_answered called) }
+{
+    match called {
+        Ok(fed) => fitting(fed.full),
+        Err(refused) => refused.refusal.into(),
+    }
 }
 
 // The number of what a call answered, but of a feeding.
@@ -39,16 +51,34 @@ pub fn returned<T: Copy>(called: Result<T, Refused<T>>) -> T
 }
 
 impl fmt::Display for Refusal {
+    ghost use Rattle.std.specs.Prelude.{Some};
+    ghost use Rattle.terminal.specs.Answers.{words};
+
+    ghost output = { λ refusal. Some (words refusal) };
+
     fn fmt<W: fmt::Write>(&self, f: &mut fmt::Formatter<W>) -> fmt::Result {
-        f.write_str(match self {
-            Refusal::Broken => "the state is not whole",
-            Refusal::WrongSize => "page or line is of another length",
-            Refusal::OffPage => "there is no such row or cell",
-        })
+        match self {
+            Refusal::Broken => f.write_str("the state is not whole"),
+            Refusal::WrongSize => f.write_str("page or line is of another length"),
+            Refusal::OffPage => f.write_str("there is no such row or cell"),
+        }
     }
 }
 
 impl Error for Refusal {}
+
+impl<T> fmt::Display for Refused<T> {
+    ghost use Rattle.std.specs.Prelude.{Some};
+    ghost use Rattle.terminal.specs.Answers.{words};
+
+    ghost output = { λ refused. Some (words refused.refusal) };
+
+    fn fmt<W: fmt::Write>(&self, f: &mut fmt::Formatter<W>) -> fmt::Result {
+        self.refusal.fmt(f)
+    }
+}
+
+impl<T: fmt::Debug + Drop> Error for Refused<T> {}
 
 impl From<Refusal> for u8 {
     ghost from_gives = { λ refusal n. n ≡ number (answer_of refusal) };

@@ -46,11 +46,7 @@ fn not_started(refusal: Refusal) -> Refused<State>
 }
 
 // Starts a page of 24, 36 or 48 rows: every cell of page and line blank, the state fresh.
-pub fn start(
-    rows: usize,
-    page: &mut [u16],
-    line: &mut [u16],
-) -> Result<State, Refused<State>>
+pub fn start(rows: usize, page: &mut [u16], line: &mut [u16]) -> Result<State, Refused<State>>
     ensures { starting.start_told result (buffers page.new line.new)
         ≡ starting.started rows (buffers page.old line.old) }
 {
@@ -142,12 +138,7 @@ fn no_cell(refusal: Refusal) -> Refused<u16>
 }
 
 // Reads a cell of a page of so many rows.
-pub fn read_cell(
-    rows: u8,
-    page: &[u16],
-    row: usize,
-    column: usize,
-) -> Result<u16, Refused<u16>>
+pub fn read_cell(rows: u8, page: &[u16], row: usize, column: usize) -> Result<u16, Refused<u16>>
     ensures { read_told result ≡ read_gives (page_answer rows page.now row column) page.now row column }
 {
     let rows = rows as usize;
@@ -163,12 +154,7 @@ pub fn read_cell(
 }
 
 // Reads a cell of the page by its row and column, counted from 1.
-pub fn read(
-    state: State,
-    page: &[u16],
-    row: usize,
-    column: usize,
-) -> Result<u16, Refused<u16>>
+pub fn read(state: State, page: &[u16], row: usize, column: usize) -> Result<u16, Refused<u16>>
     ensures { read_told result ≡ cell_read state page.now row column }
 {
     check_whole(state).map_err(no_cell)?;

@@ -3,8 +3,8 @@ ghost use Rattle.std.specs.Prelude.{◌≡◌, if◌then◌else◌};
 ghost use Rattle.steps.specs.Steps.{buffers};
 ghost use Rattle.terminal.specs.Row.{active_rows, row_told, row_read};
 
-use crate::{Refusal, Refused};
 use crate::whole::check;
+use crate::{Refusal, Refused};
 use cells::rows::row_of;
 use steps::State;
 

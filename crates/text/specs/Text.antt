@@ -1,5 +1,5 @@
 -- The page as text (SCOPE 10): a line for each row, trailing U+0020 off, each closed by 0A, in UTF-8.
-use Rattle.std.specs.Prelude.{cond, Result, Ok, Err, ◌||◌, List, [], ◌∷◌, ◌++◌, map, ℕ, ◌+◌, ◌-◌, ◌/◌, ◌%◌, eqb, leb, ltb, length, get_or}
+use Rattle.std.specs.Prelude.{cond, codes, Result, Ok, Err, ◌||◌, List, [], ◌∷◌, ◌++◌, map, ℕ, ◌+◌, ◌-◌, ◌/◌, ◌%◌, eqb, leb, ltb, length, get_or}
 use Rattle.std.proofs.lemmas.List.Edits.{sets}
 use Rattle.cells.specs.declared.CharSet.{CharSet}
 use Rattle.cells.specs.declared.CharSet.TheVariants.{Ascii, SpecialGraphics, Supplemental, Latin1}
@@ -85,6 +85,10 @@ abbrev pub page_text : List ℕ → List ℕ
 page_text p = text_of (length p / 80) p
 
 -- ---- writing it into a buffer
+
+-- a buffer that is too small, in words
+abbrev pub too_small_words : List ℕ
+too_small_words = codes "the buffer is too small for the text"
 
 -- the scope's numbers
 abbrev pub written_number : Result ℕ TooSmall → ℕ

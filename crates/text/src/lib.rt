@@ -20,6 +20,11 @@ use std::fmt;
 pub struct TooSmall;
 
 impl fmt::Display for TooSmall {
+    ghost use Rattle.std.specs.Prelude.{Some};
+    ghost use Rattle.text.specs.Text.{too_small_words};
+
+    ghost output = { λ _. Some too_small_words };
+
     fn fmt<W: fmt::Write>(&self, f: &mut fmt::Formatter<W>) -> fmt::Result {
         f.write_str("the buffer is too small for the text")
     }

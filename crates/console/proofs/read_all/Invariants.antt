@@ -4,4 +4,4 @@ use Rattle.steps.specs.Ready.{Ready}
 use Rattle.console.proofs.read_all.Given as goal
 
 abbrev pub invariant-loop : goal.invariant-loop
-invariant-loop g l = (length l.line ≡ length l.initial.line) × (length l.reply ≡ length l.initial.reply) × Ready l.newest l.page
+invariant-loop g l = (length l.line ≡ length l.initial.line) × (length l.reply ≡ length l.initial.reply) × Ready l.state l.page

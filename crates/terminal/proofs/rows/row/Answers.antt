@@ -2,11 +2,11 @@
 use Rattle.std.proofs.Common.{rules}
 use Rattle.steps.specs.Steps.{buffers}
 use Rattle.terminal.specs.Row.{row_read}
-use Rattle.terminal.proofs.CallLaws.{Taken, passed, row-refused}
+use Rattle.terminal.proofs.CallLaws.{Taken, passed, row-told-refused}
 use Rattle.terminal.proofs.rows.row.Goals as goal
 
 pub returns-in_err-map_err : goal.returns-in_err-map_err
-returns-in_err-map_err c = search (rules, row-refused)
+returns-in_err-map_err c = search (rules, row-told-refused)
 
 pub returns-then-row-active_rows : goal.returns-then-row-active_rows
 unfolding row_read
