@@ -41,7 +41,8 @@ impl Tabs {
         requires { (1 ≤ column) × (column ≤ 80) }
         ensures { result ≡ with_tab self column }
     {
-        // (A flag that is set is left: a byte that is stored and at once loaded with others costs ten of the test.)
+        // (A flag that is set is left, and in `clear` one that is not: a byte that is stored, and at once loaded with those
+        // beside it, stalls.)
         if self.get(column) {
             return self;
         }
