@@ -24,7 +24,7 @@ use Rattle.record.specs.declared.Terminal.{Terminal}
 use Rattle.record.specs.Numbers.{flag_number, is_on}
 use Rattle.record.specs.Record.{state_of, record_of, emptied}
 use Rattle.record.specs.Plain.{plain}
-use Rattle.pankholim.specs.Leaves.{StartLeaves, FeedGives, AskLeaves, AskGives}
+use Rattle.pankholim.specs.Leaves.{StartLeaves, FeedGives, AskLeaves, AskGives, CursorLeaves}
 use Rattle.terminal.proofs.CallLaws.{refusing, asked-done, asked-refused, read_as, fed-broken, fed-size, fitting-refusal, whole-refused}
 use Rattle.record.proofs.RecordLaws.{state-back}
 use Rattle.record.proofs.PlainLaws.{plain-named, plain-whole}
@@ -114,10 +114,18 @@ flag-on true n e = rw (← e) refl
 flag-on false n e = rw (← e) refl
 
 pub cursor-plain : (t : Terminal) → plain t ≡ true
+    → CursorLeaves (cursor_read (state_of t)) 0 t.cursor.row t.cursor.column t.cursor.wrap t.modes.shown
+unfolding cursor_read
+cursor-plain t e =
+    let k = told t (plain-named t e) in
+    rw (plain-whole t e)
+    (record { answer-is = refl; row_is = sym k.row; column-is = sym k.column; wrap-is = sym k.wrap; shown-is = sym k.shown })
+
+pub cursor-plain-told : (t : Terminal) → plain t ≡ true
     → cursor_told (Ok (record { row = t.cursor.row; column = t.cursor.column; wrap = is_on t.cursor.wrap; shown = is_on t.modes.shown }))
     ≡ cursor_read (state_of t)
 unfolding cursor_read
-cursor-plain t e =
+cursor-plain-told t e =
     let k = told t (plain-named t e) in
     rw (plain-whole t e, k.row, k.column, flag-on _ _ k.wrap, flag-on _ _ k.shown) refl
 

@@ -22,7 +22,7 @@ abbrev pub record_left : Terminal → Answer → State → Terminal
 record_left t a s = cond (refusal a) t (record_of s)
 
 -- t is the record at entry, and d is `started` of a number of rows, a page and a line; the number returned, and the record and both buffers at exit.
--- Refused, the record is left, and with it its state: the fresh 24-row state that the definition has there is not stored.
+-- Refused, the record is left, and with it its state: the fresh 24-row state that the call by value returns is not stored.
 pub record StartLeaves (t : Terminal) (d : Start) (r : ℕ) (terminal : Terminal) (buffers : Buffers) : Type 0 where
   pub answer-is : r ≡ d.number
   pub state-is : state_of terminal ≡ cond (refusal d.result.answer) (state_of t) d.result.state

@@ -74,11 +74,18 @@ impl<T> fmt::Display for Refused<T> {
     ghost output = { λ refused. Some (words refused.refusal) };
 
     fn fmt<W: fmt::Write>(&self, f: &mut fmt::Formatter<W>) -> fmt::Result {
-        self.refusal.fmt(f)
+        fmt::Display::fmt(&self.refusal, f)
     }
 }
 
-impl<T: fmt::Debug + Drop> Error for Refused<T> {}
+// The reason alone: what is returned may have no Debug.
+impl<T> fmt::Debug for Refused<T> {
+    fn fmt<W: fmt::Write>(&self, f: &mut fmt::Formatter<W>) -> fmt::Result {
+        fmt::Debug::fmt(&self.refusal, f)
+    }
+}
+
+impl<T: Drop> Error for Refused<T> {}
 
 impl From<Refusal> for u8 {
     ghost from_gives = { λ refusal n. n ≡ number (answer_of refusal) };

@@ -1,5 +1,5 @@
 // What the gateway calls. None of these asks that anything was checked before, and a refusal leaves all that was lent.
-ghost use Rattle.std.specs.Prelude.{◌≡◌};
+ghost use Rattle.std.specs.Prelude.{◌≡◌, false, IfErr};
 ghost use Rattle.cells.specs.Cells.{blank};
 ghost use Rattle.steps.specs.Steps.{buffers};
 ghost use Rattle.terminal.specs.Start as starting;
@@ -84,8 +84,9 @@ pub fn feed(
     input: &[u8],
     reply: &mut [u8],
 ) -> Result<FedBytes, Refused<FedBytes>>
-    ensures { feed_told result (buffers page.new line.new) reply.new
+    ensures told { feed_told result (buffers page.new line.new) reply.new
         ≡ fed state (buffers page.old line.old) input.now reply.old }
+    ensures unstopped { IfErr result (λ refused. refused.returned.full ≡ false) }
 {
     check(state, page, line).map_err(|refusal| Refused {
         refusal,

@@ -20,7 +20,7 @@ pub enum Refusal {
 }
 
 // A refused call: why, and what it returns all the same (SCOPE 2).
-#[derive(Clone, Copy, Debug, PartialEq, Eq)]
+#[derive(Clone, Copy, PartialEq, Eq)]
 pub struct Refused<T> {
     pub refusal: Refusal,
     pub returned: T,

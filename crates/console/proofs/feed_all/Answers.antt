@@ -7,7 +7,7 @@ loop-from-preserved c =
     let lent = c.requires in
     let kept = c.feed.auto in
     turn-next c.loop-from.invariant _ _ _ lent.1 lent.2 c.loop-from-test.true
-    kept.page kept.line kept.reply (rw c.unwrap-fed.ensures at c.feed.ensures)
+    kept.page kept.line kept.reply (rw c.unwrap-fed.ensures at c.feed.ensures.told)
 
 pub overflow_add-from : goal.overflow_add-from
 overflow_add-from c =
@@ -16,7 +16,7 @@ overflow_add-from c =
     omega (
       arith,
       (turn-next c.loop-from.invariant _ _ _ lent.1 lent.2 c.loop-from-test.true
-          kept.page kept.line kept.reply (rw c.unwrap-fed.ensures at c.feed.ensures)).within,
+          kept.page kept.line kept.reply (rw c.unwrap-fed.ensures at c.feed.ensures.told)).within,
     )
 
 pub loop-from-smaller : goal.loop-from-smaller
@@ -24,10 +24,10 @@ loop-from-smaller c =
     let lent = c.requires in
     let kept = c.feed.auto in
     turn-less c.loop-from.invariant _ _ _ lent.1 lent.2 c.loop-from-test.true
-    kept.page kept.line kept.reply (rw c.unwrap-fed.ensures at c.feed.ensures)
+    kept.page kept.line kept.reply (rw c.unwrap-fed.ensures at c.feed.ensures.told)
 
 pub unwrap-fed-requires : goal.unwrap-fed-requires
-unwrap-fed-requires c = turn-ok c.loop-from.invariant _ _ _ c.requires.1 c.feed.ensures
+unwrap-fed-requires c = turn-ok c.loop-from.invariant _ _ _ c.requires.1 c.feed.ensures.told
 
 pub loop-from-init : goal.loop-from-init
 loop-from-init c = search going-none
