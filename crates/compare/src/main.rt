@@ -10,7 +10,7 @@ use probes::views::put_displays;
 use std::io;
 use std::io::{ErrorKind, Read, Write};
 use steps::State;
-use terminal::answers::{fed_number, number, returned};
+use terminal::answers::{DONE, fitting};
 use terminal::calls::{ask, feed, fresh, read, start};
 use terminal::rows::row;
 use text::write_text;
@@ -54,9 +54,17 @@ fn put_answer(out: &mut Writer, letter: u8, answer: u8) {
 }
 
 fn do_start(state: &mut State, rows: u16, page: &mut [u16], line: &mut [u16], out: &mut Writer) {
-    let begun = start(rows as usize, page, line);
-    *state = returned(begun);
-    put_answer(out, b'S', number(begun));
+    let answer = match start(rows as usize, page, line) {
+        Ok(begun) => {
+            *state = begun;
+            DONE
+        }
+        Err(refused) => {
+            *state = refused.returned;
+            refused.refusal.into()
+        }
+    };
+    put_answer(out, b'S', answer);
 }
 
 // Every byte of the reply buffer is EE before a feeding.
@@ -69,35 +77,56 @@ fn do_feed(
     out: &mut Writer,
 ) {
     reply.fill(0xEE);
-    let called = feed(*state, page, line, input, reply);
-    let fed = returned(called);
-    *state = fed.state;
-    put_answer(out, b'F', fed_number(called));
-    put_number(out, fed.read as u64, 2);
-    put_number(out, fed.replied as u64, 2);
+    let (answer, read, replied) = match feed(*state, page, line, input, reply) {
+        Ok(fed) => {
+            *state = fed.state;
+            (fitting(fed.full), fed.read, fed.replied)
+        }
+        Err(refused) => {
+            let fed = refused.returned;
+            *state = fed.state;
+            (refused.refusal.into(), fed.read, fed.replied)
+        }
+    };
+    put_answer(out, b'F', answer);
+    put_number(out, read as u64, 2);
+    put_number(out, replied as u64, 2);
     put_bytes(out, reply);
 }
 
 fn do_ask(state: &mut State, out: &mut Writer) {
-    let called = ask(*state);
-    let asked = returned(called);
-    *state = asked.state;
-    put_answer(out, b'A', number(called));
-    put_number(out, asked.rows, 8);
-    put_number(out, asked.count as u64, 1);
-    put(out, asked.flag as u8);
+    let (answer, rows, count, flag) = match ask(*state) {
+        Ok(asked) => {
+            *state = asked.state;
+            (DONE, asked.rows, asked.count, asked.flag)
+        }
+        Err(refused) => {
+            let asked = refused.returned;
+            *state = asked.state;
+            (refused.refusal.into(), asked.rows, asked.count, asked.flag)
+        }
+    };
+    put_answer(out, b'A', answer);
+    put_number(out, rows, 8);
+    put_number(out, count as u64, 1);
+    put(out, flag as u8);
 }
 
 fn do_read(state: State, page: &[u16], row: u16, column: u16, out: &mut Writer) {
-    let word = read(state, page, row as usize, column as usize);
-    put_answer(out, b'R', number(word));
-    put_number(out, returned(word) as u64, 2);
+    let (answer, word) = match read(state, page, row as usize, column as usize) {
+        Ok(word) => (DONE, word),
+        Err(refused) => (refused.refusal.into(), refused.returned),
+    };
+    put_answer(out, b'R', answer);
+    put_number(out, word as u64, 2);
 }
 
 fn do_row<'a>(state: State, page: &'a [u16], line: &'a [u16], at: u16, out: &mut Writer) {
-    let found = row(state, page, line, at as usize);
-    put_answer(out, b'O', number(found));
-    let cells = returned(found);
+    let (answer, cells) = match row(state, page, line, at as usize) {
+        Ok(cells) => (DONE, cells),
+        Err(refused) => (refused.refusal.into(), refused.returned),
+    };
+    put_answer(out, b'O', answer);
     put_number(out, cells.len() as u64, 1);
     put_words(out, cells);
 }

@@ -1,6 +1,6 @@
 // What is written of an answer, put together in a buffer. What does not fit is left out.
 ghost use Rattle.std.specs.Prelude.{[], ◌∷◌};
-ghost use Rattle.probes.specs.Output.{Put, low_first, word_bytes};
+ghost use Rattle.probes.specs.Output.{Put, PutAt, low_first, word_bytes};
 
 use ground::writing::Writer;
 
@@ -32,11 +32,20 @@ pub fn put_bytes(out: &mut Writer, from: &[u8])
     }
 }
 
+// From a place on, by a writer of its own, whose place the compiler keeps in a register. The place after them.
+fn words_at(bytes: &mut [u8], at: usize, from: &[u16]) -> usize
+    ensures { PutAt bytes.old at (word_bytes from.now) bytes.new result }
+{
+    let mut out = Writer { bytes, len: at };
+    for word in from {
+        put_number(&mut out, u64::from(*word), 2);
+    }
+    out.len
+}
+
 // Each word as two bytes.
 pub fn put_words(out: &mut Writer, from: &[u16])
     ensures { Put out.old (word_bytes from.now) out.new }
 {
-    for word in from {
-        put_number(out, u64::from(*word), 2);
-    }
+    out.len = words_at(out.bytes, out.len, from);
 }

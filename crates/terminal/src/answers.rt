@@ -1,10 +1,8 @@
 // The scope's numbers of the answers, and a refusal in words.
 ghost use Rattle.std.specs.Prelude.{◌≡◌, if◌then◌else◌};
 ghost use Rattle.terminal.specs.Answers.{Done, NoRoom, number, answer_of, answered, returned};
-ghost use Rattle.terminal.specs.Feed.{feed_answered};
 
 use crate::{Refusal, Refused};
-use feeding::bytes::FedBytes;
 use std::error::Error;
 use std::fmt;
 
@@ -18,16 +16,6 @@ pub fn fitting(full: bool) -> u8
     ensures { result ≡ number (if full then NoRoom else Done) }
 {
     if full { NO_ROOM } else { DONE }
-}
-
-// The number of what a feeding answered.
-pub fn fed_number(called: Result<FedBytes, Refused<FedBytes>>) -> u8
-    ensures { result ≡ number (feed_answered called) }
-{
-    match called {
-        Ok(fed) => fitting(fed.full),
-        Err(refused) => refused.refusal.into(),
-    }
 }
 
 // The number of what a call answered, but of a feeding.

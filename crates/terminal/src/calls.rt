@@ -76,7 +76,9 @@ pub fn feed_whole(
     feed_bytes(state, page, line, input, reply)
 }
 
-// Feeds bytes from the modem, until the input ends or a reply does not fit.
+// Feeds bytes from the modem, until the input ends or a reply does not fit. (Not inlined: a caller's loop over calls would
+// hold all of it.)
+#[inline(never)]
 pub fn feed(
     state: State,
     page: &mut [u16],
@@ -88,15 +90,18 @@ pub fn feed(
         ≡ fed state (buffers page.old line.old) input.now reply.old }
     ensures unstopped { IfErr result (λ refused. refused.returned.full ≡ false) }
 {
-    check(state, page, line).map_err(|refusal| Refused {
-        refusal,
-        returned: FedBytes {
-            read: 0,
-            replied: 0,
-            full: false,
-            state,
-        },
-    })?;
+    // (No `map_err`, whose closure would copy the state of each call.)
+    if let Err(refusal) = check(state, page, line) {
+        return Err(Refused {
+            refusal,
+            returned: FedBytes {
+                read: 0,
+                replied: 0,
+                full: false,
+                state,
+            },
+        });
+    }
     Ok(feed_whole(state, page, line, input, reply))
 }
 
@@ -104,15 +109,17 @@ pub fn feed(
 pub fn ask(state: State) -> Result<Asked, Refused<Asked>>
     ensures { ask_told result ≡ asked state }
 {
-    check_whole(state).map_err(|refusal| Refused {
-        refusal,
-        returned: Asked {
-            rows: 0,
-            count: 0,
-            flag: false,
-            state,
-        },
-    })?;
+    if let Err(refusal) = check_whole(state) {
+        return Err(Refused {
+            refusal,
+            returned: Asked {
+                rows: 0,
+                count: 0,
+                flag: false,
+                state,
+            },
+        });
+    }
     let changed = state.tracked.changed;
     Ok(Asked {
         rows: changed,

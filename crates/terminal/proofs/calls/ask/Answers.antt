@@ -5,9 +5,9 @@ use Rattle.terminal.specs.Ask.{asked}
 use Rattle.terminal.proofs.CallLaws.{whole-passed, whole-refused, state-facts}
 use Rattle.terminal.proofs.calls.ask.Goals as goal
 
-pub returns-in_err-map_err : goal.returns-in_err-map_err
+pub returns-in-Err : goal.returns-in-Err
 unfolding asked
-returns-in_err-map_err c = search (rules, whole-refused)
+returns-in-Err c = search (rules, whole-refused)
 
 pub returns : goal.returns
 unfolding asked

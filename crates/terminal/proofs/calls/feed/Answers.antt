@@ -6,5 +6,5 @@ use Rattle.terminal.proofs.calls.feed.Goals as goal
 pub feed_whole-requires : goal.feed_whole-requires
 feed_whole-requires c = search (rules, passed)
 
-pub returns-in_err-map_err : goal.returns-in_err-map_err
-returns-in_err-map_err c = search (rules, fed-refused)
+pub returns-in-Err : goal.returns-in-Err
+returns-in-Err c = search (rules, fed-refused)

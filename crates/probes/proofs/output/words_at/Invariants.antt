@@ -2,7 +2,7 @@
 use Rattle.std.proofs.Common.{drop}
 use Rattle.probes.specs.Output.{word_bytes}
 use Rattle.probes.proofs.OutputLaws.{Remaining}
-use Rattle.probes.proofs.output.put_words.Given as goal
+use Rattle.probes.proofs.output.words_at.Given as goal
 
 abbrev pub invariant-loop-word : goal.invariant-loop-word
 invariant-loop-word l = Remaining l.initial.out (word_bytes l.from) l.out (word_bytes (drop l.word-index l.from))
